@@ -1,0 +1,12 @@
+//! Keys, suffixes and their order.
+//!
+//! A key is a prefix of 1 to 200 bytes, none of them `@`, and then a suffix. A suffix is empty, or `@` and
+//! a decimal number from 1 to 2^64 - 1 without a leading zero. Keys are ordered by the bytes of their
+//! prefixes, and then by their suffixes: the empty suffix first, then larger numbers before smaller ones.
+#![tactic(auto)]
+
+mod key;
+mod suffix;
+
+pub use key::UserKey;
+pub use suffix::Suffix;

@@ -1,0 +1,87 @@
+-- The machine: its state, its events, and its steps.
+use Rattle.std.specs.Prelude.{◌≡◌, ℕ, ◌+◌, ◌==◌, ◌≤◌, not, List, [], ◌∷◌, ◌++◌, length, filter, if◌then◌else◌, Option, Some, None, Contains}
+use Rattle.std.specs.Option.{option_map_or}
+use Rattle.rk_model.specs.Covers.{upto}
+use Rattle.rk_model.specs.Operations.{History, entries, last}
+use Rattle.rk_model.specs.Moves.{Move, View, opened_over, after_move}
+use Rattle.rk_model.specs.Spans.{same_bytes}
+use Rattle.rk_model.specs.declared.op.Op.{Op}
+use Rattle.rk_model.specs.declared.options.IterOptions.{IterOptions}
+
+-- An open iterator: the number that its opening fixed, and what it sees and shows
+pub record Open : Type 0 where
+  pub number : ℕ
+  pub view : View
+
+pub record State : Type 0 where
+  pub history : History
+  pub live : List ℕ
+  pub iterators : List (List ℕ × Open)
+
+abbrev pub start : State
+start = record { history = []; live = []; iterators = [] }
+
+-- What is done, with the names that the caller gives
+pub data Event : Type 0 where
+  Commit : (ops : List Op) → Event
+  Snap : Event
+  Release : (number : ℕ) → Event
+  OpenAt : (name : List ℕ) → (at : Option ℕ) → (options : IterOptions) → Event
+  Moves : (name : List ℕ) → (move : Move) → Event
+  Close : (name : List ℕ) → Event
+
+pub data Reply : Type 0 where
+  Committed : (first last : ℕ) → Reply
+  Number : (number : ℕ) → Reply
+  Released : Reply
+  Opened : (number : ℕ) → Reply
+  Stands : (at : Open) → Reply
+  Closed : Reply
+
+-- one of a number less
+abbrev pub without : ℕ → List ℕ → List ℕ
+without n [] = []
+without n (m ∷ ms) = if m == n then ms else m ∷ without n ms
+
+abbrev pub named : List ℕ → List (List ℕ × Open) → Option Open
+named name [] = None
+named name (i ∷ is) = if same_bytes i.0 name then Some i.1 else named name is
+
+abbrev pub replaced : List ℕ → Open → List (List ℕ × Open) → List (List ℕ × Open)
+replaced name it [] = []
+replaced name it (i ∷ is) = if same_bytes i.0 name then (name, it) ∷ is else i ∷ replaced name it is
+
+abbrev pub closed : List ℕ → List (List ℕ × Open) → List (List ℕ × Open)
+closed name is = filter (λ i. not (same_bytes i.0 name)) is
+
+abbrev pub moved_on : Open → Move → Open
+moved_on it move = record { number = it.number; view = after_move it.view move }
+
+abbrev pub opened : State → Option ℕ → IterOptions → Open
+opened m at options =
+    let number = option_map_or (λ n. n) at (last m.history) in
+    record { number = number; view = opened_over (upto number (entries m.history)) options }
+
+-- an event, its reply, and the state after it; what isn't named stays
+abbrev pub Step : State → Event → Reply → State → Type 0
+Step m (Commit ops) reply m' = (1 ≤ length ops)
+    × (reply ≡ Committed (last m.history + 1) (last m.history + length ops))
+    × (m' ≡ record m { history = m.history ++ ops ∷ [] })
+Step m Snap reply m' = (reply ≡ Number (last m.history)) × (m' ≡ record m { live = last m.history ∷ m.live })
+Step m (Release number) reply m' = Contains m.live number × (reply ≡ Released) × (m' ≡ record m { live = without number m.live })
+Step m (OpenAt name at options) reply m' =
+    (reply ≡ Opened (opened m at options).number) × (m' ≡ record m { iterators = (name, opened m at options) ∷ m.iterators })
+Step m (Moves name move) reply m' = (it : Open)
+    × (named name m.iterators ≡ Some it)
+    × (reply ≡ Stands (moved_on it move))
+    × (m' ≡ record m { iterators = replaced name (moved_on it move) m.iterators })
+Step m (Close name) reply m' = (reply ≡ Closed) × (m' ≡ record m { iterators = closed name m.iterators })
+
+-- a run: the states in between stand beside the events and replies
+abbrev pub Run : State → List Event → List Reply → List State → Type 0
+Run m [] [] [] = Unit {0}
+Run m [] [] (s ∷ ss) = ⊥
+Run m [] (r ∷ rs) ss = ⊥
+Run m (e ∷ es) [] ss = ⊥
+Run m (e ∷ es) (r ∷ rs) [] = ⊥
+Run m (e ∷ es) (r ∷ rs) (s ∷ ss) = Step m e r s × Run s es rs ss

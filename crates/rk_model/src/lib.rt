@@ -1,0 +1,12 @@
+//! The operations of the store, and what a list of them means.
+#![tactic(auto)]
+
+mod cursor;
+mod op;
+mod options;
+mod span;
+
+pub use cursor::Cursor;
+pub use op::{Entry, Op};
+pub use options::IterOptions;
+pub use span::{RangeKey, RangeKeys, RangeKind, Span, SuffixValue};
