@@ -1,6 +1,22 @@
-//! What stands outside the store: bytes, memory that runs out, sources and sinks.
+//! What stands outside the store: bytes, memory that runs out, and objects that fail.
+//!
+//! A source is read, a sink is written. Each counts its faults in a number that never falls, and a call
+//! answers `Failed` only where that count rose in the call: so no failure is made up, and none is lost.
+//! What a source has left, and what was written to a sink, is told where the implementation knows it, and
+//! then each call says exactly which bytes it moved.
+//!
+//! The refusals of the calls above stand here too, since many crates share them.
 #![tactic(auto)]
 
 mod bytes;
+mod conversions;
+mod error;
+mod sink;
+mod source;
 
 pub use bytes::Bytes;
+pub use error::{
+    BuildError, Failed, NoMemory, Refused, SinkError, SourceError, StoreError, VaultError, What,
+};
+pub use sink::{Sink, WriteSink};
+pub use source::{ReadSource, Source};

@@ -1,0 +1,4 @@
+pub mod Causes
+pub mod Sinks
+pub mod Adapters
+pub mod Refusals
