@@ -5,3 +5,4 @@ pub mod Spans
 pub mod Positions
 pub mod Moves
 pub mod Kept
+pub mod Named

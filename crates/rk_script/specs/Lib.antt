@@ -1,0 +1,3 @@
+pub mod Words
+pub mod KeyTests
+pub mod Script

@@ -1,0 +1,9 @@
+//! Command files: lines, words and escapes, and the reading of a whole file.
+//!
+//! It stands on rk_key, rk_outside and rk_model. Its main contract is that of `read_script`, which answers
+//! exactly the lines that the bytes of a file spell, or the first line that is not of the grammar.
+#![tactic(auto)]
+
+mod line;
+
+pub use line::{Event, Line, ScriptError, Why};
