@@ -1,0 +1,1 @@
+-- The cover and the point after one more entry.

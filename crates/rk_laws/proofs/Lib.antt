@@ -1,0 +1,5 @@
+pub mod Lists
+pub mod Order
+pub mod Plain
+pub mod Pairs
+pub mod After

@@ -1,0 +1,5 @@
+use Rattle.rk_laws.proofs.Plain.{cover_of_prefix}
+use Rattle.rk_laws.proofs.prefixes.cover_of_a_key_is_that_of_its_prefix.Goals as goal
+
+pub returns : goal.returns
+returns c = cover_of_prefix

@@ -1,0 +1,13 @@
+//! The laws of the definitions over whole operations: what ties covers, spans, positions and kept entries
+//! together, whichever entries made them.
+//!
+//! Each law is a statement of `specs/`, and the contract of a function here that has nothing to do. A crate
+//! above cites the lemma of the same name in `proofs/`. It stands on `rk_model` and `rk_key`.
+#![tactic(auto)]
+
+mod prefixes;
+
+pub use prefixes::{
+    cover_of_a_key_is_that_of_its_prefix, cover_of_a_key_is_that_of_spans,
+    point_of_a_key_is_that_of_its_own_points, spans_over_a_key_are_those_over_its_prefix,
+};
