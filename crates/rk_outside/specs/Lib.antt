@@ -1,4 +1,5 @@
-pub mod Causes
-pub mod Sinks
 pub mod Adapters
+pub mod Calls
+pub mod Causes
 pub mod Refusals
+pub mod Sinks

@@ -11,6 +11,8 @@
 mod bytes;
 mod conversions;
 mod error;
+mod memory;
+mod schedule;
 mod sink;
 mod source;
 
@@ -18,5 +20,6 @@ pub use bytes::Bytes;
 pub use error::{
     BuildError, Failed, NoMemory, Refused, SinkError, SourceError, StoreError, VaultError, What,
 };
+pub use memory::{SliceSource, SteadySink, SteadySource, VecSink};
 pub use sink::{Sink, WriteSink};
 pub use source::{ReadSource, Source};
