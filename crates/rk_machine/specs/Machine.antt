@@ -1,9 +1,10 @@
 -- The machine: its state, its events, and its steps.
-use Rattle.std.specs.Prelude.{◌≡◌, ℕ, ◌+◌, ◌==◌, ◌≤◌, not, List, [], ◌∷◌, ◌++◌, length, filter, if◌then◌else◌, Option, Some, None, Contains}
+use Rattle.std.specs.Prelude.{◌≡◌, ℕ, ◌+◌, ◌==◌, ◌≤◌, not, List, [], ◌∷◌, ◌++◌, length, filter, if◌then◌else◌, Option, Some, None, Contains, IfSome}
 use Rattle.std.specs.Option.{option_map_or}
 use Rattle.rk_model.specs.Covers.{upto}
-use Rattle.rk_model.specs.Operations.{History, entries, last}
 use Rattle.rk_model.specs.Moves.{Move, View, opened_over, after_move}
+use Rattle.rk_model.specs.Named.{named, with_named}
+use Rattle.rk_model.specs.Operations.{History, entries, last}
 use Rattle.rk_model.specs.Spans.{same_bytes}
 use Rattle.rk_model.specs.declared.op.Op.{Op}
 use Rattle.rk_model.specs.declared.options.IterOptions.{IterOptions}
@@ -13,6 +14,7 @@ pub record Open : Type 0 where
   pub number : ℕ
   pub view : View
 
+-- The state: the commits, the numbers of live snapshots, and the open iterators by their names
 pub record State : Type 0 where
   pub history : History
   pub live : List ℕ
@@ -43,20 +45,14 @@ abbrev pub without : ℕ → List ℕ → List ℕ
 without n [] = []
 without n (m ∷ ms) = if m == n then ms else m ∷ without n ms
 
-abbrev pub named : List ℕ → List (List ℕ × Open) → Option Open
-named name [] = None
-named name (i ∷ is) = if same_bytes i.0 name then Some i.1 else named name is
-
-abbrev pub replaced : List ℕ → Open → List (List ℕ × Open) → List (List ℕ × Open)
-replaced name it [] = []
-replaced name it (i ∷ is) = if same_bytes i.0 name then (name, it) ∷ is else i ∷ replaced name it is
-
+-- all that have other names
 abbrev pub closed : List ℕ → List (List ℕ × Open) → List (List ℕ × Open)
 closed name is = filter (λ i. not (same_bytes i.0 name)) is
 
 abbrev pub moved_on : Open → Move → Open
 moved_on it move = record { number = it.number; view = after_move it.view move }
 
+-- an iterator that is opened now sees the entries up to its number, and no others ever
 abbrev pub opened : State → Option ℕ → IterOptions → Open
 opened m at options =
     let number = option_map_or (λ n. n) at (last m.history) in
@@ -69,13 +65,18 @@ Step m (Commit ops) reply m' = (1 ≤ length ops)
     × (m' ≡ record m { history = m.history ++ ops ∷ [] })
 Step m Snap reply m' = (reply ≡ Number (last m.history)) × (m' ≡ record m { live = last m.history ∷ m.live })
 Step m (Release number) reply m' = Contains m.live number × (reply ≡ Released) × (m' ≡ record m { live = without number m.live })
-Step m (OpenAt name at options) reply m' =
-    (reply ≡ Opened (opened m at options).number) × (m' ≡ record m { iterators = (name, opened m at options) ∷ m.iterators })
+Step m (OpenAt name at options) reply m' = (named name m.iterators ≡ None)
+    × IfSome at (Contains m.live)
+    × (reply ≡ Opened (opened m at options).number)
+    × (m' ≡ record m { iterators = m.iterators ++ (name, opened m at options) ∷ [] })
 Step m (Moves name move) reply m' = (it : Open)
     × (named name m.iterators ≡ Some it)
     × (reply ≡ Stands (moved_on it move))
-    × (m' ≡ record m { iterators = replaced name (moved_on it move) m.iterators })
-Step m (Close name) reply m' = (reply ≡ Closed) × (m' ≡ record m { iterators = closed name m.iterators })
+    × (m' ≡ record m { iterators = with_named name (moved_on it move) m.iterators })
+Step m (Close name) reply m' = (it : Open)
+    × (named name m.iterators ≡ Some it)
+    × (reply ≡ Closed)
+    × (m' ≡ record m { iterators = closed name m.iterators })
 
 -- a run: the states in between stand beside the events and replies
 abbrev pub Run : State → List Event → List Reply → List State → Type 0
