@@ -86,6 +86,11 @@ filter_map_kept {X} {Y} g h t Q says (x ∷ xs) k = rw (says x k.0) (go (h x) (f
     at : (b : Bool) (y : Y) → t y ≡ b → filter_map g xs ≡ filter t (filter_map h xs) → cons_option (cond b (Some y) None) (filter_map g xs) ≡ cond b (y ∷ filter t (filter_map h xs)) (filter t (filter_map h xs))
     at true y e ih = ap (λ l. y ∷ l) ih
     at false y e ih = ih
+
     go : (o : Option Y) → filter_map g xs ≡ filter t (filter_map h xs) → cons_option (kept_if t o) (filter_map g xs) ≡ filter t (cons_option o (filter_map h xs))
     go None ih = ih
     go (Some y) ih = at (t y) y refl ih
+
+pub or_true : (b : Bool) → (b || true) ≡ true
+or_true true = refl
+or_true false = refl

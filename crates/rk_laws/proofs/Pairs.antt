@@ -25,6 +25,7 @@ insert_before a b (q ∷ qs) h = go (less b q) (less a q) refl refl (insert_befo
   where
     back : less b a ≡ false
     back = lt_back suffix_total a.suffix b.suffix h
+
     go : (s t : Bool) → less b q ≡ s → less a q ≡ t → insert_pair a (insert_pair b qs) ≡ insert_pair b (insert_pair a qs) →
         insert_pair a (cond s (b ∷ q ∷ qs) (q ∷ insert_pair b qs)) ≡ insert_pair b (cond t (a ∷ q ∷ qs) (q ∷ insert_pair a qs))
     go true true e f ih = simp (h, back, e, f)
@@ -59,6 +60,7 @@ insert_rises p (q ∷ qs) h = go (less p q) refl (insert_rises p qs h.1)
     above : less p q ≡ true → (l : List SuffixValue) → AllByRecursion (λ r. less r q ≡ false) l → AllByRecursion (λ r. less r p ≡ false) l
     above e [] k = tt
     above e (r ∷ l) k = (ge_trans suffix_total r.suffix q.suffix p.suffix k.0 (lt_back suffix_total p.suffix q.suffix e), above e l k.1)
+
     go : (s : Bool) → less p q ≡ s → Rising (insert_pair p qs) → Rising (cond s (p ∷ q ∷ qs) (q ∷ insert_pair p qs))
     go true e ih = ((lt_back suffix_total p.suffix q.suffix e, above e qs h.0), h)
     go false e ih = (all_insert (λ r. less r q ≡ false) p qs e h.0, ih)
@@ -78,6 +80,7 @@ filter_insert t p (q ∷ qs) h = go (less p q) (t p) (t q) refl refl refl (filte
     above : less p q ≡ true → (l : List SuffixValue) → AllByRecursion (λ r. less r q ≡ false) l → AllByRecursion (λ r. less p r ≡ true) l
     above e [] k = tt
     above e (r ∷ l) k = (lt_ge suffix_total p.suffix q.suffix r.suffix e k.0, above e l k.1)
+
     go : (s a b : Bool) → less p q ≡ s → t p ≡ a → t q ≡ b → filter t (insert_pair p qs) ≡ cond (t p) (insert_pair p (filter t qs)) (filter t qs) →
         filter t (cond s (p ∷ q ∷ qs) (q ∷ insert_pair p qs)) ≡ cond a (insert_pair p (cond b (q ∷ filter t qs) (filter t qs))) (cond b (q ∷ filter t qs) (filter t qs))
     go true true true e f g ih = simp (e, f, g)

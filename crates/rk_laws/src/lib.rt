@@ -5,8 +5,13 @@
 //! above cites the lemma of the same name in `proofs/`. It stands on `rk_model` and `rk_key`.
 #![tactic(auto)]
 
+mod newer;
 mod prefixes;
 
+pub use newer::{
+    cover_after_an_entry_is_that_of_the_cover_before,
+    point_after_an_entry_is_that_of_the_point_before,
+};
 pub use prefixes::{
     cover_of_a_key_is_that_of_its_prefix, cover_of_a_key_is_that_of_spans,
     point_of_a_key_is_that_of_its_own_points, spans_over_a_key_are_those_over_its_prefix,
