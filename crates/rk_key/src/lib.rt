@@ -5,8 +5,12 @@
 //! prefixes, and then by their suffixes: the empty suffix first, then larger numbers before smaller ones.
 #![tactic(auto)]
 
+mod error;
 mod key;
+mod order;
 mod suffix;
 
+pub use error::{KeyError, Which};
 pub use key::UserKey;
+pub use order::{compare, split};
 pub use suffix::Suffix;

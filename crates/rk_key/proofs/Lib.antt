@@ -1,0 +1,4 @@
+pub mod Decimals
+pub mod Equality
+pub mod Parts
+pub mod Suffixes
