@@ -1,5 +1,5 @@
 -- Objects in memory that fail at listed calls. Calls are numbered from 1.
-use Rattle.std.specs.Prelude.{ℕ, ◌+◌, ◌-◌, ◌^◌, min, Bool, true, false, if◌then◌else◌, List, [], Contains, Result, Ok, Err}
+use Rattle.std.specs.Prelude.{ℕ, ◌+◌, ◌-◌, ◌^◌, min, Bool, true, false, if◌then◌else◌, List, Contains, Result, Ok, Err}
 use Rattle.rk_outside.specs.declared.error.SinkError.{SinkError}
 use Rattle.rk_outside.specs.declared.error.SinkError.TheVariants.{Memory, Failed}
 

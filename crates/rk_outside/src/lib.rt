@@ -23,3 +23,6 @@ pub use error::{
 pub use memory::{SliceSource, SteadySink, SteadySource, VecSink};
 pub use sink::{Sink, WriteSink};
 pub use source::{ReadSource, Source};
+
+#[cfg(test)]
+mod tests;

@@ -5,7 +5,7 @@ ghost use Rattle.rk_outside.specs.Calls.{IsNextListed, no_calls, after_call};
 use std::marker::Model;
 
 #[derive(Debug, Drop)]
-pub struct Schedule<'a> {
+pub(crate) struct Schedule<'a> {
     fail: &'a [u64],
     made: u64,
     faults: u64,
@@ -20,7 +20,7 @@ impl<'a> Model for Schedule<'a> {
 }
 
 impl<'a> Schedule<'a> {
-    pub fn new(fail: &'a [u64]) -> Schedule<'a>
+    pub(crate) fn new(fail: &'a [u64]) -> Schedule<'a>
         ensures { result ≡ no_calls fail.now }
     {
         Schedule {
@@ -31,7 +31,7 @@ impl<'a> Schedule<'a> {
     }
 
     // Counts one more call, and says whether it fails.
-    pub fn next_fails(&mut self) -> bool
+    pub(crate) fn next_fails(&mut self) -> bool
         ensures listed { IsTrue result ↔ IsNextListed self.old }
         ensures counted { self.new ≡ after_call result self.old }
         ensures later { self.old.faults ≤ self.new.faults }
@@ -48,7 +48,7 @@ impl<'a> Schedule<'a> {
         fails
     }
 
-    pub fn faults(&self) -> u64
+    pub(crate) fn faults(&self) -> u64
         ensures { result ≡ self.now.faults }
     {
         self.faults
