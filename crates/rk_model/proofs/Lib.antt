@@ -1,1 +1,3 @@
 mod Examples
+pub mod Orders
+pub mod Points

@@ -1,9 +1,11 @@
 //! The operations of the store, and what a list of them means.
 #![tactic(auto)]
 
+mod copies;
 mod cursor;
 mod op;
 mod options;
+mod plain;
 mod span;
 
 pub use cursor::Cursor;

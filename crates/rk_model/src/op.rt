@@ -1,5 +1,8 @@
+ghost use Rattle.std.specs.Prelude.{◌≡◌, IfOk};
+
+use crate::copies::copy_key;
 use rk_key::{Suffix, UserKey};
-use rk_outside::Bytes;
+use rk_outside::{Bytes, NoMemory};
 
 /// An operation on a point, or on the range keys of the span from `start` up to `end`, without `end`.
 #[derive(Debug, Drop)]
@@ -33,9 +36,66 @@ pub enum Op {
     },
 }
 
+impl Op {
+    /// An equal operation.
+    ///
+    /// # Errors
+    ///
+    /// `NoMemory` where a key or the value finds no memory.
+    pub fn copy(&self) -> Result<Op, NoMemory>
+        ensures { IfOk result (λ op. op ≡ self.now) }
+    {
+        match self {
+            Op::Put { key, value } => Ok(Op::Put {
+                key: copy_key(key)?,
+                value: value.copy()?,
+            }),
+            Op::Del { key } => Ok(Op::Del {
+                key: copy_key(key)?,
+            }),
+            Op::RangeSet {
+                start,
+                end,
+                suffix,
+                value,
+            } => Ok(Op::RangeSet {
+                start: copy_key(start)?,
+                end: copy_key(end)?,
+                suffix: suffix.copy(),
+                value: value.copy()?,
+            }),
+            Op::RangeUnset { start, end, suffix } => Ok(Op::RangeUnset {
+                start: copy_key(start)?,
+                end: copy_key(end)?,
+                suffix: suffix.copy(),
+            }),
+            Op::RangeDel { start, end } => Ok(Op::RangeDel {
+                start: copy_key(start)?,
+                end: copy_key(end)?,
+            }),
+        }
+    }
+}
+
 /// An operation and its sequence number.
 #[derive(Debug, Drop)]
 pub struct Entry {
     pub op: Op,
     pub seq: u64,
+}
+
+impl Entry {
+    /// An equal entry.
+    ///
+    /// # Errors
+    ///
+    /// `NoMemory` where its operation finds no memory.
+    pub fn copy(&self) -> Result<Entry, NoMemory>
+        ensures { IfOk result (λ entry. entry ≡ self.now) }
+    {
+        Ok(Entry {
+            op: self.op.copy()?,
+            seq: self.seq,
+        })
+    }
 }

@@ -1,0 +1,38 @@
+// Copies of keys, of bounds and of lists of entries.
+ghost use Rattle.std.specs.Prelude.{◌≡◌, IfOk};
+
+use crate::Entry;
+use rk_key::UserKey;
+use rk_outside::NoMemory;
+use std::alloc::Global;
+
+/// An equal key. A key is refused for want of memory alone.
+pub(crate) fn copy_key(key: &UserKey) -> Result<UserKey, NoMemory>
+    ensures { IfOk result (λ k. k ≡ key.now) }
+{
+    match key.copy() {
+        Ok(copied) => Ok(copied),
+        Err(_) => Err(NoMemory),
+    }
+}
+
+/// An equal bound.
+pub(crate) fn copy_bound(bound: &Option<UserKey>) -> Result<Option<UserKey>, NoMemory>
+    ensures { IfOk result (λ b. b ≡ bound.now) }
+{
+    match bound {
+        Some(key) => Ok(Some(copy_key(key)?)),
+        None => Ok(None),
+    }
+}
+
+/// Equal entries.
+pub(crate) fn copy_entries(alloc: Global, entries: &[Entry]) -> Result<Vec<Entry>, NoMemory>
+    ensures { IfOk result (λ v. v.items ≡ entries.now) }
+{
+    let mut copied = Vec::new(alloc);
+    for entry in entries {
+        copied.push(entry.copy()?)?;
+    }
+    Ok(copied)
+}

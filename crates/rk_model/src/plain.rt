@@ -1,0 +1,2 @@
+//! The slow evaluator: the definitions of what an iterator shows, computed as they stand.
+mod covers;
