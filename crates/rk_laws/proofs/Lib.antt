@@ -1,5 +1,10 @@
 pub mod Lists
+pub mod Members
 pub mod Order
+pub mod Ends
 pub mod Plain
+pub mod Cuts
+pub mod Widest
+pub mod Places
 pub mod Pairs
 pub mod After

@@ -1,6 +1,7 @@
 -- A key and its prefix.
-use Rattle.std.proofs.Common.{◌≡◌, ℕ, Bool, true, false, not, ◌&&◌, ◌||◌, cond, List, [], ◌∷◌, filter, Option, Some, None, refl, ap, sym, ◌∙◌, arith, rules, nat_lt}
+use Rattle.std.proofs.Common.{◌≡◌, ℕ, Bool, true, false, not, ◌&&◌, ◌||◌, cond, List, [], ◌∷◌, filter, Option, Some, None, refl, ap, sym, ◌∙◌, ◌⊎◌, inl, inr, flat_map, arith, rules, nat_lt}
 use Rattle.std.specs.Ordering.{is_lt}
+use Rattle.std.specs.declared.cmp.Ordering.TheVariants.{Less, Equal, Greater}
 use Rattle.std.specs.Option.{option_and_then}
 use Rattle.std.specs.List.{All, AllByRecursion, list_any, filter_map}
 use Rattle.std.proofs.lemmas.List.Elements.{recursion_from_All, All-head, All-tail}
@@ -13,8 +14,10 @@ use Rattle.rk_model.specs.declared.op.Op.TheVariants.{Put, Del, RangeSet, RangeU
 use Rattle.rk_model.specs.declared.op.Entry.{Entry}
 use Rattle.rk_model.specs.declared.span.SuffixValue.{SuffixValue}
 use Rattle.rk_laws.specs.Prefixes.{PlainEnds, spans_over, points_on, CoverOfSpans, CoverOfPrefix, SpansOverPrefix, PointOfItsOwn}
-use Rattle.rk_laws.proofs.Lists.{any_filter, filter_map_filter, filter_map_same, filter_twice, filter_swap}
-use Rattle.rk_laws.proofs.Order.{lt_plain_prefix}
+use Rattle.rk_laws.proofs.Members.{Among, among_all, all_among, among_left, among_right, flat_map_among, filter_among}
+use Rattle.rk_laws.proofs.Ends.{lt}
+use Rattle.rk_laws.proofs.Lists.{filter_none, any_filter, filter_map_filter, filter_map_same, filter_twice, filter_swap}
+use Rattle.rk_laws.proofs.Order.{lt_plain_prefix, key_total}
 
 -- the pairs that a list of entries over a key gives
 abbrev pub cover_of : List Entry → List SuffixValue
@@ -75,42 +78,66 @@ value_of points = option_and_then (λ e. put_value e.op) (newest points)
 pub point_of_its_own : PointOfItsOwn
 point_of_its_own es x = ap value_of (sym (ap (filter (λ e. is_point e.op)) (over_again x (λ e. is_point e.op) es) ∙ filter_twice (λ e. is_point e.op) (over x es)))
 
+abbrev pub all_ends : List Entry → List (List ℕ)
+all_ends es = flat_map (λ e. op_ends e.op) es
+
+within_agree : (y z start end : List ℕ) → ((k : List ℕ) → Among k (start ∷ end ∷ []) → lt y k ≡ lt z k) → within start end y ≡ within start end z
+within_agree y z start end h = rw (h start (inl refl), h end (inr (inl refl))) refl
+
+over_agree : (y z : List ℕ) (op : Op) → ((k : List ℕ) → Among k (op_ends op) → lt y k ≡ lt z k) → not (is_point op) ≡ true → is_over y op ≡ is_over z op
+over_agree y z (Put key value) h k = cc
+over_agree y z (Del key) h k = cc
+over_agree y z (RangeSet start end s value) h k = within_agree y z start end h
+over_agree y z (RangeUnset start end s) h k = within_agree y z start end h
+over_agree y z (RangeDel start end) h k = within_agree y z start end h
+
+-- two keys that no start or end tells apart have the same spans over them
+pub spans_agree : (y z : List ℕ) (es : List Entry) → ((k : List ℕ) → Among k (all_ends es) → lt y k ≡ lt z k) → spans_over y es ≡ spans_over z es
+spans_agree y z [] h = refl
+spans_agree y z (e ∷ es) h =
+    step (is_over y e.op) (is_over z e.op) (is_span e) (over_agree y z e.op (λ k m. h k (among_left (op_ends e.op) (all_ends es) k m))) refl
+    ∙ shift (is_over z e.op) (is_span e) refl (spans_agree y z es (λ k m. h k (among_right (op_ends e.op) (all_ends es) k m)))
+  where
+    step : (a b s : Bool) → (s ≡ true → a ≡ b) → is_span e ≡ s → filter is_span (cond a (e ∷ over y es) (over y es)) ≡ filter is_span (cond b (e ∷ over y es) (over y es))
+    step a b true same h = rw (same refl) refl
+    step true true false same h = refl
+    step true false false same h = rw h refl
+    step false true false same h = rw h refl
+    step false false false same h = refl
+
+    shift : (b s : Bool) → is_span e ≡ s → spans_over y es ≡ spans_over z es → filter is_span (cond b (e ∷ over y es) (over y es)) ≡ filter is_span (cond b (e ∷ over z es) (over z es))
+    shift true true h k = rw h (ap (λ l. e ∷ l) k)
+    shift true false h k = rw h k
+    shift false s h k = k
+
+pub cover_agrees : (y z : List ℕ) (es : List Entry) → ((k : List ℕ) → Among k (all_ends es) → lt y k ≡ lt z k) → cover es y ≡ cover es z
+cover_agrees y z es h = cover_of-spans (over y es) ∙ ap cover_of (spans_agree y z es h) ∙ sym (cover_of-spans (over z es))
+
+-- keys that are ordered alike have one cover
+pub cover_alike : (y z : List ℕ) (es : List Entry) → key_cmp y z ≡ Equal → cover es y ≡ cover es z
+cover_alike y z es h = cover_agrees y z es (λ k m. ap is_lt (key_total.congr y z k h))
+
 -- ends without a suffix don't tell a key from its prefix
-within_prefix : (x start end : List ℕ) → suffix start ≡ [] → suffix end ≡ [] → within start end x ≡ within start end (prefix x)
-within_prefix x start end h k = rw (lt_plain_prefix x start h, lt_plain_prefix x end k) refl
-
-plain_pair : (x start end : List ℕ) → All (λ k. suffix k ≡ []) (start ∷ end ∷ []) → within start end x ≡ within start end (prefix x)
-plain_pair x start end h =
-    let tail = All-tail (λ k. suffix k ≡ []) start (end ∷ []) h in
-    within_prefix x start end (All-head (λ k. suffix k ≡ []) start (end ∷ []) h) (All-head (λ k. suffix k ≡ []) end [] tail)
-
-span_over_prefix : (x : List ℕ) (op : Op) → All (λ k. suffix k ≡ []) (op_ends op) → not (is_point op) ≡ true → is_over x op ≡ is_over (prefix x) op
-span_over_prefix x (Put key value) h k = cc
-span_over_prefix x (Del key) h k = cc
-span_over_prefix x (RangeSet start end s value) h k = plain_pair x start end h
-span_over_prefix x (RangeUnset start end s) h k = plain_pair x start end h
-span_over_prefix x (RangeDel start end) h k = plain_pair x start end h
+plain_end : (es : List Entry) (k : List ℕ) → PlainEnds es → Among k (all_ends es) → suffix k ≡ []
+plain_end es k plain m =
+    let (e, n) = flat_map_among (λ e. op_ends e.op) es k m in
+    let P : Entry → Type 0 = λ f. All (λ k. suffix k ≡ []) (op_ends f.op) in
+    let all : P e = among_all P es e (recursion_from_All P es plain) n.0 in
+    among_all (λ k. suffix k ≡ []) (op_ends e.op) k (recursion_from_All (λ k. suffix k ≡ []) (op_ends e.op) all) n.1
 
 pub spans_over_prefix : SpansOverPrefix
-spans_over_prefix es x plain = go es (recursion_from_All (λ e. All (λ k. suffix k ≡ []) (op_ends e.op)) es plain)
-  where
-    step : (y : List ℕ) (a b s : Bool) (e : Entry) (es : List Entry) → (s ≡ true → a ≡ b) → is_span e ≡ s → filter is_span (cond a (e ∷ over x es) (over x es)) ≡ filter is_span (cond b (e ∷ over x es) (over x es))
-    step y a b true e es same h = rw (same refl) refl
-    step y true true false e es same h = refl
-    step y true false false e es same h = rw h refl
-    step y false true false e es same h = rw h refl
-    step y false false false e es same h = refl
-
-    shift : (b s : Bool) (e : Entry) (xs ys : List Entry) → is_span e ≡ s → filter is_span xs ≡ filter is_span ys → filter is_span (cond b (e ∷ xs) xs) ≡ filter is_span (cond b (e ∷ ys) ys)
-    shift true true e xs ys h k = rw h (ap (λ l. e ∷ l) k)
-    shift true false e xs ys h k = rw h k
-    shift false s e xs ys h k = k
-
-    go : (es : List Entry) → AllByRecursion (λ e. All (λ k. suffix k ≡ []) (op_ends e.op)) es → spans_over x es ≡ spans_over (prefix x) es
-    go [] h = refl
-    go (e ∷ es) h =
-        step x (is_over x e.op) (is_over (prefix x) e.op) (is_span e) e es (span_over_prefix x e.op h.0) refl
-        ∙ shift (is_over (prefix x) e.op) (is_span e) e (over x es) (over (prefix x) es) refl (go es h.1)
+spans_over_prefix es x plain = spans_agree x (prefix x) es (λ k m. lt_plain_prefix x k (plain_end es k plain m))
 
 pub cover_of_prefix : CoverOfPrefix
-cover_of_prefix es x plain = cover_of-spans (over x es) ∙ ap cover_of (spans_over_prefix es x plain) ∙ sym (cover_of-spans (over (prefix x) es))
+cover_of_prefix es x plain = cover_agrees x (prefix x) es (λ k m. lt_plain_prefix x k (plain_end es k plain m))
+
+-- where no span is over a key, its cover is empty
+pub cover_none : (es : List Entry) (x : List ℕ) → ((e : Entry) → Among e es → is_span e ≡ true → is_over x e.op ≡ false) → cover es x ≡ []
+cover_none es x h = cover_of-spans (over x es) ∙ ap cover_of (filter_none is_span (over x es) (all_among (λ e. is_span e ≡ false) (over x es) point_alone))
+  where
+    point_alone : (e : Entry) → Among e (over x es) → is_span e ≡ false
+    point_alone e m = go (is_span e) refl (filter_among (λ e. is_over x e.op) es e m)
+      where
+        go : (b : Bool) → is_span e ≡ b → Among e es × (is_over x e.op ≡ true) → b ≡ false
+        go true k n = let f : is_over x e.op ≡ false = h e n.0 k in (let g : is_over x e.op ≡ true = n.1 in cc)
+        go false k n = refl

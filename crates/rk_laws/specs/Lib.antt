@@ -1,2 +1,3 @@
 pub mod Prefixes
 pub mod Newer
+pub mod Neighbours

@@ -5,9 +5,15 @@
 //! above cites the lemma of the same name in `proofs/`. It stands on `rk_model` and `rk_key`.
 #![tactic(auto)]
 
+mod neighbours;
 mod newer;
 mod prefixes;
 
+pub use neighbours::{
+    a_cursor_at_a_key_is_within_the_bounds, at_the_end_of_a_span_the_cover_is_another,
+    before_the_start_of_a_span_the_cover_is_another, each_cover_has_a_span,
+    each_key_of_a_span_has_its_cover, positions_rise_strictly,
+};
 pub use newer::{
     cover_after_an_entry_is_that_of_the_cover_before,
     point_after_an_entry_is_that_of_the_point_before,
