@@ -173,9 +173,10 @@ impl Sink for VecSink<'_> {
         ensures counted { self.new.calls ≡ after_call (is_err result) self.old.calls }
     {
         if self.schedule.next_fails() {
-            return Err(Failed);
+            Err(Failed)
+        } else {
+            Ok(())
         }
-        Ok(())
     }
 
     fn faults(&self) -> u64 {
@@ -187,7 +188,7 @@ impl Sink for VecSink<'_> {
 /// piece.
 #[derive(Debug, Drop)]
 pub struct SteadySink {
-    written: Vec<u8>,
+    bytes: Vec<u8>,
 }
 
 impl Model for SteadySink {
@@ -195,7 +196,7 @@ impl Model for SteadySink {
 
     ghost Value = { List ℕ };
 
-    ghost view = { λ s. s.written.items };
+    ghost view = { λ s. s.bytes.items };
 }
 
 impl SteadySink {
@@ -204,7 +205,7 @@ impl SteadySink {
         ensures { result ≡ [] }
     {
         SteadySink {
-            written: Vec::new(alloc),
+            bytes: Vec::new(alloc),
         }
     }
 
@@ -212,7 +213,7 @@ impl SteadySink {
     pub fn bytes(&self) -> &[u8]
         ensures { result.now ≡ self.now }
     {
-        &self.written
+        &self.bytes
     }
 }
 
@@ -233,7 +234,7 @@ impl Sink for SteadySink {
         ensures kept { OnErr result (self.new ≡ self.old) }
         ensures never_failed { IsErrOf result SinkError.Failed → ⊥ }
     {
-        self.written.extend_from_slice(bytes)?;
+        self.bytes.extend_from_slice(bytes)?;
         Ok(bytes.len())
     }
 

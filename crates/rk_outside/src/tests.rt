@@ -2,7 +2,7 @@ use crate::{
     Bytes, Failed, NoMemory, ReadSource, Sink, SinkError, SliceSource, Source, SourceError,
     SteadySink, SteadySource, StoreError, VecSink, WriteSink,
 };
-use std::io::{self, ErrorKind, Read};
+use std::io::{self, ErrorKind, Read, Write};
 use std::test::Fail;
 
 const LISTED: [u64; 1] = [2];
@@ -19,12 +19,22 @@ fn pour<S: Source, K: Sink>(source: &mut S, sink: &mut K) -> Result<(), SinkErro
     sink.finish().map_err(|_| SinkError::Failed)
 }
 
-// A reader that fails each time.
+// A reader and a writer that fail each time.
 #[derive(Drop)]
 struct Broken;
 
 impl Read for Broken {
     fn read(&mut self, _: &mut [u8]) -> io::Result<usize> {
+        Err(io::Error::from(ErrorKind::Other))
+    }
+}
+
+impl Write for Broken {
+    fn write(&mut self, _: &[u8]) -> io::Result<usize> {
+        Err(io::Error::from(ErrorKind::Other))
+    }
+
+    fn flush(&mut self) -> io::Result<()> {
         Err(io::Error::from(ErrorKind::Other))
     }
 }
@@ -112,6 +122,10 @@ fn the_adapters_count_faults(rt: HostRuntime) {
     let mut source = ReadSource::new(Broken);
     assert!(rt; source.read(&mut [0; 2]) == Err(Failed));
     assert_eq!(rt; source.faults(), 1);
+    let mut sink = WriteSink::new(Broken);
+    assert!(rt; sink.write(b"ab") == Err(SinkError::Failed));
+    assert!(rt; sink.finish() == Err(Failed));
+    assert_eq!(rt; sink.faults(), 2);
     let mut room = [0; 3];
     let mut sink = WriteSink::new(room.as_mut_slice());
     for (answer, faults) in [(Ok(2), 0), (Ok(1), 0), (Err(SinkError::Failed), 1)] {
