@@ -1,4 +1,5 @@
 pub mod Decimals
 pub mod Equality
 pub mod Parts
+pub mod Places
 pub mod Suffixes

@@ -1,13 +1,16 @@
-ghost use Rattle.std.specs.Prelude.{◌≡◌, ◌≤◌, List, ℕ, length, refl, IfOk, IfErr, IsOk};
+ghost use Rattle.std.specs.Prelude.{◌≡◌, ◌≤◌, List, ℕ, length, refl, IfOk, IfErr, IsOk, OnOk, ◌≢◌};
 ghost use Rattle.std.specs.Ordering.{eq_by_cmp, as_partial_cmp};
 ghost use Rattle.std.specs.Cmp.{partial_equiv_from_equiv, partial_order_from_agreeing_total};
 ghost use Rattle.std.proofs.lemmas.Cmp.{eq_by_cmp_equiv};
 ghost use Rattle.rk_key.specs.Keys.{IsKey, IsSuffix, prefix, suffix, key_cmp};
+ghost use Rattle.rk_key.specs.Refusals.{IsRefusalOf};
 ghost use Rattle.rk_key.specs.Laws.{key_cmp-total};
 
-use crate::error::KeyError;
+use crate::error::{KeyError, Which};
+use crate::form::bad_key;
 use crate::order::{compare, split};
 use smallvec::SmallVec;
+use std::alloc::Global;
 use std::cmp::Ordering;
 use std::marker::Model;
 
@@ -67,6 +70,29 @@ impl UserKey {
             bytes: SmallVec::from_slice(alloc, self.bytes())?,
         })
     }
+}
+
+/// Reads a key. A key of at most 32 bytes takes no memory.
+///
+/// # Errors
+///
+/// [`KeyError::BadKey`] exactly where the bytes are no key, and [`KeyError::Memory`] where there is no
+/// memory for them.
+pub fn read_key(alloc: Global, bytes: &[u8]) -> Result<UserKey, KeyError>
+    ensures ok { IfOk result (λ key. key ≡ bytes.now) }
+    ensures is_key { OnOk result (IsKey bytes.now) }
+    ensures refusal { IfErr result (IsRefusalOf IsKey Which.Key bytes.now) }
+    ensures short { length bytes.now ≤ 32 → IfErr result (λ error. error ≢ KeyError.Memory) }
+{
+    if let Some(at) = bad_key(bytes) {
+        return Err(KeyError::BadKey {
+            which: Which::Key,
+            at,
+        });
+    }
+    Ok(UserKey {
+        bytes: SmallVec::from_slice(alloc, bytes)?,
+    })
 }
 
 impl PartialEq for UserKey {

@@ -6,11 +6,12 @@
 #![tactic(auto)]
 
 mod error;
+mod form;
 mod key;
 mod order;
 mod suffix;
 
 pub use error::{KeyError, Which};
-pub use key::UserKey;
+pub use key::{UserKey, read_key};
 pub use order::{compare, split};
-pub use suffix::Suffix;
+pub use suffix::{Suffix, read_suffix};

@@ -1,12 +1,16 @@
-ghost use Rattle.std.specs.Prelude.{◌≡◌, List, ℕ, refl};
+ghost use Rattle.std.specs.Prelude.{◌≡◌, List, ℕ, refl, IfOk, IfErr, OnOk, ◌≢◌};
 ghost use Rattle.std.specs.Ordering.{eq_by_cmp, as_partial_cmp};
 ghost use Rattle.rk_key.specs.Keys.{IsSuffix, suffix_cmp};
 ghost use Rattle.std.specs.Cmp.{partial_equiv_from_equiv, partial_order_from_agreeing_total};
 ghost use Rattle.std.proofs.lemmas.Cmp.{eq_by_cmp_equiv};
+ghost use Rattle.rk_key.specs.Refusals.{IsRefusalOf};
 ghost use Rattle.rk_key.specs.Laws.{suffix_cmp-total};
 
+use crate::error::{KeyError, Which};
+use crate::form::bad_suffix;
 use crate::order::compare_suffixes;
 use smallvec::SmallVec;
+use std::alloc::Global;
 use std::cmp::Ordering;
 use std::marker::Model;
 
@@ -43,6 +47,29 @@ impl Suffix {
             bytes: SmallVec::from_slice(alloc, self.bytes()).unwrap(),
         }
     }
+}
+
+/// Reads a suffix. It takes no memory.
+///
+/// # Errors
+///
+/// [`KeyError::BadKey`] exactly where the bytes are no suffix.
+#[tactic(auto, using(crate::proofs::Suffixes::length_suffix))]
+pub fn read_suffix(alloc: Global, bytes: &[u8]) -> Result<Suffix, KeyError>
+    ensures ok { IfOk result (λ suffix. suffix ≡ bytes.now) }
+    ensures is_suffix { OnOk result (IsSuffix bytes.now) }
+    ensures refusal { IfErr result (IsRefusalOf IsSuffix Which.Suffix bytes.now) }
+    ensures no_memory { IfErr result (λ error. error ≢ KeyError.Memory) }
+{
+    if let Some(at) = bad_suffix(bytes) {
+        return Err(KeyError::BadKey {
+            which: Which::Suffix,
+            at,
+        });
+    }
+    Ok(Suffix {
+        bytes: SmallVec::from_slice(alloc, bytes).unwrap(),
+    })
 }
 
 impl PartialEq for Suffix {
