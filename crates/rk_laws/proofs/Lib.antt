@@ -6,5 +6,7 @@ pub mod Plain
 pub mod Cuts
 pub mod Widest
 pub mod Places
+pub mod Agree
+pub mod Moved
 pub mod Pairs
 pub mod After

@@ -54,6 +54,15 @@ least_among keys x h = first_among keys x (at_key End (first_of keys) x (λ e. c
 pub greatest_among : (keys : List (List ℕ)) (x : List ℕ) → greatest keys ≡ At x → Among x keys
 greatest_among keys x h = last_among keys x (at_key Start (last_of keys) x (λ e. cc) h)
 
+-- the key that a move seeks, where it is within the bounds
+abbrev pub Sought : IterOptions → Move → List ℕ → Type 0
+Sought o First x = ⊥
+Sought o Last x = ⊥
+Sought o Next x = ⊥
+Sought o Prev x = ⊥
+Sought o (SeekGe k) x = (raised o.lower k ≡ x) × (in_bounds o x ≡ true)
+Sought o (SeekLt k) x = ⊥
+
 module _ (es : List Entry) (o : IterOptions) where
   least_inside : (t : List ℕ → Bool) (x : List ℕ) → least (filter t (positions es o)) ≡ At x → Among x (positions es o)
   least_inside t x h = (filter_among t (positions es o) x (least_among (filter t (positions es o)) x h)).0
@@ -71,19 +80,27 @@ module _ (es : List Entry) (o : IterOptions) where
       go true e false h = let f : k ≡ x = cc in inl (f, sym (ap (in_bounds o) f) ∙ e)
 
   -- a cursor at a key is at the key that was sought, or at a position
-  pub moved_is : (c : Cursor) (move : Move) (x : List ℕ) → moved es o c move ≡ At x → (in_bounds o x ≡ true)
-  moved_is c First x h = position_inside es o x (least_among (positions es o) x h)
-  moved_is c Last x h = position_inside es o x (greatest_among (positions es o) x h)
-  moved_is Fresh Next x h = position_inside es o x (least_among (positions es o) x h)
-  moved_is Start Next x h = position_inside es o x (least_among (positions es o) x h)
-  moved_is (At y) Next x h = position_inside es o x (least_inside (λ p. is_lt (key_cmp y p)) x h)
+  pub moved_is : (c : Cursor) (move : Move) (x : List ℕ) → moved es o c move ≡ At x → Among x (positions es o) ⊎ Sought o move x
+  moved_is c First x h = inl (least_among (positions es o) x h)
+  moved_is c Last x h = inl (greatest_among (positions es o) x h)
+  moved_is Fresh Next x h = inl (least_among (positions es o) x h)
+  moved_is Start Next x h = inl (least_among (positions es o) x h)
+  moved_is (At y) Next x h = inl (least_inside (λ p. is_lt (key_cmp y p)) x h)
   moved_is End Next x h = cc
-  moved_is Fresh Prev x h = position_inside es o x (greatest_among (positions es o) x h)
+  moved_is Fresh Prev x h = inl (greatest_among (positions es o) x h)
   moved_is Start Prev x h = cc
-  moved_is (At y) Prev x h = position_inside es o x (greatest_inside (λ p. is_lt (key_cmp p y)) x h)
-  moved_is End Prev x h = position_inside es o x (greatest_among (positions es o) x h)
-  moved_is c (SeekGe k) x h = elim (sought_is (raised o.lower k) x h) [ inl e ↦ e.1 | inr m ↦ position_inside es o x m ]
-  moved_is c (SeekLt k) x h = position_inside es o x (greatest_inside (λ p. is_lt (key_cmp p (lowered o.upper k))) x h)
+  moved_is (At y) Prev x h = inl (greatest_inside (λ p. is_lt (key_cmp p y)) x h)
+  moved_is End Prev x h = inl (greatest_among (positions es o) x h)
+  moved_is c (SeekGe k) x h = elim (sought_is (raised o.lower k) x h) [ inl e ↦ inr e | inr m ↦ inl m ]
+  moved_is c (SeekLt k) x h = inl (greatest_inside (λ p. is_lt (key_cmp p (lowered o.upper k))) x h)
+
+sought_inside : (o : IterOptions) (move : Move) (x : List ℕ) → Sought o move x → in_bounds o x ≡ true
+sought_inside o First x h = absurd h
+sought_inside o Last x h = absurd h
+sought_inside o Next x h = absurd h
+sought_inside o Prev x h = absurd h
+sought_inside o (SeekGe k) x h = h.1
+sought_inside o (SeekLt k) x h = absurd h
 
 pub cursor_within_bounds : CursorWithinBounds
-cursor_within_bounds es o c move x h = moved_is es o c move x h
+cursor_within_bounds es o c move x h = elim (moved_is es o c move x h) [ inl m ↦ position_inside es o x m | inr k ↦ sought_inside o move x k ]

@@ -89,10 +89,10 @@ may_start_from es o x a h = every_from (λ b. lt b a || same_cover (cover es b) 
         go true e n = refl
         go false e n = same_cover_from (cover es b) (cover es x) (h b n.0 (not-true (lt x b) n.1) e)
 
-abbrev back : (x y : List ℕ) → lt x y ≡ true → lt y x ≡ false
+abbrev pub back : (x y : List ℕ) → lt x y ≡ true → lt y x ≡ false
 back x y h = lt_back key_total x y h
 
-abbrev self : (x : List ℕ) → lt x x ≡ false
+abbrev pub self : (x : List ℕ) → lt x x ≡ false
 self x = lt_itself key_total x
 
 pub start_is : (es : List Entry) (o : IterOptions) (x a : List ℕ) → span_start es o x ≡ Some a → IsStart es o x a

@@ -1,3 +1,4 @@
 pub mod Prefixes
 pub mod Newer
 pub mod Neighbours
+pub mod SameCells

@@ -8,6 +8,7 @@
 mod neighbours;
 mod newer;
 mod prefixes;
+mod same_cells;
 
 pub use neighbours::{
     a_cursor_at_a_key_is_within_the_bounds, at_the_end_of_a_span_the_cover_is_another,
@@ -21,4 +22,9 @@ pub use newer::{
 pub use prefixes::{
     cover_of_a_key_is_that_of_its_prefix, cover_of_a_key_is_that_of_spans,
     point_of_a_key_is_that_of_its_own_points, spans_over_a_key_are_those_over_its_prefix,
+};
+pub use same_cells::{
+    a_move_leads_to_a_key_within_the_bounds, changes_of_span_are_those_of_the_covers,
+    moves_are_those_of_the_cells, positions_are_those_of_the_cells, reports_are_those_of_the_cells,
+    starts_of_spans_are_those_of_the_covers, widest_spans_are_those_of_the_covers,
 };
