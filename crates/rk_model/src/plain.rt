@@ -1,2 +1,3 @@
 //! The slow evaluator: the definitions of what an iterator shows, computed as they stand.
+mod cover;
 mod covers;

@@ -1,13 +1,15 @@
 // What a list of entries gives at a key: the point's value, and the cover.
-ghost use Rattle.std.specs.Prelude.{◌≡◌, ◌&&◌, not, nat_lt, filter};
+ghost use Rattle.std.specs.Prelude.{◌≡◌, ◌&&◌, nat_lt, filter, IfOk};
 ghost use Rattle.std.specs.List.{list_any};
 ghost use Rattle.std.specs.Option.{option_copied};
 ghost use Rattle.rk_model.specs.Operations.{within, is_over};
-ghost use Rattle.rk_model.specs.Covers.{over, newest, is_point, put_value, point, ends_set};
+ghost use Rattle.rk_model.specs.Covers.{over, newest, is_point, put_value, point, ends_set, standing, cover};
 
-use crate::{Entry, Op};
+use crate::plain::cover::Cover;
+use crate::{Entry, Op, SuffixValue};
 use rk_key::{Suffix, UserKey};
-use rk_outside::Bytes;
+use rk_outside::{Bytes, NoMemory};
+use std::alloc::Global;
 
 /// Whether `start <= key < end`.
 #[tactic(auto, using(crate::proofs::Orders::is_ge_is))]
@@ -83,4 +85,47 @@ pub(crate) fn point<'a>(entries: &'a [Entry], x: &UserKey) -> Option<&'a Bytes>
         Some(e) => e.op.put_value(),
         None => None,
     }
+}
+
+/// Whether an entry over the key, newer than `n`, takes away what was put under the suffix.
+fn is_ended(entries: &[Entry], x: &UserKey, suffix: &Suffix, n: u64) -> bool
+    ensures { result ≡ list_any (λ f. nat_lt n f.seq && ends_set suffix.now f.op) (over x.now entries.now) }
+{
+    entries
+        .iter()
+        .any(|f| n < f.seq && f.op.ends_set(suffix) && f.op.is_over(x))
+}
+
+/// What an entry over the key put there, unless a newer one ended it.
+fn standing(entries: &[Entry], x: &UserKey, e: &Entry) -> Result<Option<SuffixValue>, NoMemory>
+    ensures { IfOk result (λ pair. pair ≡ standing (over x.now entries.now) e.now.seq e.now.op) }
+{
+    match &e.op {
+        Op::RangeSet { suffix, value, .. } => {
+            if is_ended(entries, x, suffix, e.seq) {
+                return Ok(None);
+            }
+            Ok(Some(SuffixValue {
+                suffix: suffix.copy(),
+                value: value.copy()?,
+            }))
+        }
+        _ => Ok(None),
+    }
+}
+
+/// The pairs that hold at the key, ascending by suffix.
+pub(crate) fn cover(alloc: Global, entries: &[Entry], x: &UserKey) -> Result<Cover, NoMemory>
+    ensures { IfOk result (λ c. c ≡ cover entries.now x.now) }
+{
+    let mut pairs = Cover::new(alloc);
+    for i in (0..entries.len()).rev() {
+        let e = &entries[i];
+        if e.op.is_over(x) {
+            if let Some(pair) = standing(entries, x, e)? {
+                pairs.insert(pair)?;
+            }
+        }
+    }
+    Ok(pairs)
 }
