@@ -1,9 +1,13 @@
-//! What stands outside the store: bytes, memory that runs out, and objects that fail.
+//! What stands outside the store: bytes, memory that runs out, and objects that fail. It stands on std alone.
 //!
 //! A source is read, a sink is written. Each counts its faults in a number that never falls, and a call
-//! answers `Failed` only where that count rose in the call: so no failure is made up, and none is lost.
-//! What a source has left, and what was written to a sink, is told where the implementation knows it, and
-//! then each call says exactly which bytes it moved.
+//! answers `Failed` only where that count rose in the call: so no failure is made up. What a source has
+//! left, and what was written to a sink, is told where the implementation knows it. Then a read says which
+//! bytes it took, and a write which it added: at `Ok` the first ones of its piece, as many as it answers,
+//! at `Failed` some first ones or none.
+//!
+//! Adapters make a source of any reader of std and a sink of any writer. Those in memory fail at the calls
+//! that they are given, or never.
 //!
 //! The refusals of the calls above stand here too, since many crates share them.
 #![tactic(auto)]

@@ -150,8 +150,10 @@ impl Sink for VecSink<'_> {
         ensures taken { WritesAtMost result bytes.now }
         ensures some { TakesSome result bytes.now }
         ensures ok { AddsTaken (Some self.old.written) (Some self.new.written) result bytes.now }
-        ensures memory { IsErrOf result SinkError.Memory → Keeps (Some self.old.written) (Some self.new.written) }
-        ensures failed { IsErrOf result SinkError.Failed → AppendsPrefix (Some self.old.written) (Some self.new.written) bytes.now }
+        ensures memory { IsErrOf result SinkError.Memory →
+            Keeps (Some self.old.written) (Some self.new.written) }
+        ensures failed { IsErrOf result SinkError.Failed →
+            AppendsPrefix (Some self.old.written) (Some self.new.written) bytes.now }
         ensures cause { HasCauseOf SinkError.Failed self.old.calls.faults self.new.calls.faults result }
         ensures whole { IfOk result (λ n. n ≡ length bytes.now) }
         ensures added { OnOk result (self.new.written ≡ self.old.written ++ bytes.now) }
@@ -227,7 +229,8 @@ impl Sink for SteadySink {
         ensures some { TakesSome result bytes.now }
         ensures ok { AddsTaken (Some self.old) (Some self.new) result bytes.now }
         ensures memory { IsErrOf result SinkError.Memory → Keeps (Some self.old) (Some self.new) }
-        ensures failed { IsErrOf result SinkError.Failed → AppendsPrefix (Some self.old) (Some self.new) bytes.now }
+        ensures failed { IsErrOf result SinkError.Failed →
+            AppendsPrefix (Some self.old) (Some self.new) bytes.now }
         ensures cause { HasCauseOf SinkError.Failed 0 0 result }
         ensures whole { IfOk result (λ n. n ≡ length bytes.now) }
         ensures added { OnOk result (self.new ≡ self.old ++ bytes.now) }

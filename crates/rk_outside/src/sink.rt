@@ -24,7 +24,8 @@ pub trait Sink {
         ensures some { TakesSome result bytes.now }
         ensures ok { AddsTaken (written self.old) (written self.new) result bytes.now }
         ensures memory { IsErrOf result SinkError.Memory → Keeps (written self.old) (written self.new) }
-        ensures failed { IsErrOf result SinkError.Failed → AppendsPrefix (written self.old) (written self.new) bytes.now }
+        ensures failed { IsErrOf result SinkError.Failed →
+            AppendsPrefix (written self.old) (written self.new) bytes.now }
         ensures cause { HasCauseOf SinkError.Failed (fault_count self.old) (fault_count self.new) result };
 
     /// Hands on what was written so far. Whatever it answers, it adds nothing.
