@@ -8,5 +8,9 @@ pub mod Widest
 pub mod Places
 pub mod Agree
 pub mod Moved
+pub mod Stripes
+pub mod Dropped
+pub mod Stays
+pub mod Keeping
 pub mod Pairs
 pub mod After

@@ -2,3 +2,4 @@ pub mod Prefixes
 pub mod Newer
 pub mod Neighbours
 pub mod SameCells
+pub mod KeptCells

@@ -5,11 +5,15 @@
 //! above cites the lemma of the same name in `proofs/`. It stands on `rk_model` and `rk_key`.
 #![tactic(auto)]
 
+mod kept_cells;
 mod neighbours;
 mod newer;
 mod prefixes;
 mod same_cells;
 
+pub use kept_cells::{
+    entries_kept_at_the_bottom_give_the_same_cells, kept_entries_give_the_same_cells,
+};
 pub use neighbours::{
     a_cursor_at_a_key_is_within_the_bounds, at_the_end_of_a_span_the_cover_is_another,
     before_the_start_of_a_span_the_cover_is_another, each_cover_has_a_span,
