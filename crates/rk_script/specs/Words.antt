@@ -1,6 +1,6 @@
 -- Lines and words of a command file, names, and words for bytes.
 use Rattle.std.specs.Prelude.{ℕ, ◌+◌, ◌-◌, ◌*◌, ◌/◌, ◌%◌, ◌==◌, nat_le, nat_lt, Bool, true, false, not, ◌&&◌, ◌||◌, List, [], ◌∷◌, length, filter, if◌then◌else◌, Option, Some, None, codes}
-use Rattle.std.specs.List.{list_all, flat_map}
+use Rattle.std.specs.List.{list_all, flat_map, slice_split}
 use Rattle.std.specs.Option.{option_map, option_and_then}
 use Rattle.rk_model.specs.Lists.{none_of}
 use Rattle.rk_model.specs.Spans.{same_bytes}
@@ -15,15 +15,9 @@ space = 32
 abbrev pub percent : ℕ
 percent = 37
 
--- a byte put before the first piece
-abbrev pub onto_first : ℕ → List (List ℕ) → List (List ℕ)
-onto_first b [] = (b ∷ []) ∷ []
-onto_first b (p ∷ ps) = (b ∷ p) ∷ ps
-
 -- what stands between the separators, one piece more than there are separators
 abbrev pub pieces : ℕ → List ℕ → List (List ℕ)
-pieces separator [] = [] ∷ []
-pieces separator (b ∷ bs) = if b == separator then [] ∷ pieces separator bs else onto_first b (pieces separator bs)
+pieces separator bs = slice_split (λ b. b == separator) bs
 
 -- a piece behind the last line end is a line too, or an empty one that is skipped
 abbrev pub lines : List ℕ → List (List ℕ)
@@ -32,10 +26,10 @@ lines file = pieces line_end file
 abbrev pub words : List ℕ → List (List ℕ)
 words line = filter (λ w. not (none_of w)) (pieces space line)
 
--- a comment, or no word at all
+-- empty, a comment, or spaces alone
 abbrev pub is_skipped : List ℕ → Bool
 is_skipped [] = true
-is_skipped (b ∷ bs) = (b == 35) || none_of (words (b ∷ bs))
+is_skipped (b ∷ bs) = (b == 35) || list_all (λ c. c == space) (b ∷ bs)
 
 abbrev pub is_printable : ℕ → Bool
 is_printable b = nat_le 32 b && nat_le b 126

@@ -4,6 +4,11 @@
 //! exactly the lines that the bytes of a file spell, or the first line that is not of the grammar.
 #![tactic(auto)]
 
+mod error;
+mod escape;
 mod line;
+mod names;
+mod words;
 
+pub use escape::{push_escaped, push_escaped_bytes};
 pub use line::{Event, Line, ScriptError, Why};

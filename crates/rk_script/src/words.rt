@@ -1,0 +1,64 @@
+// Lines and words.
+ghost use Rattle.std.specs.Prelude.{◌≡◌, IfOk, map};
+ghost use Rattle.std.specs.Prelude.{◌==◌};
+ghost use Rattle.std.specs.List.{list_all};
+ghost use Rattle.rk_model.specs.Spans.{same_bytes};
+ghost use Rattle.rk_script.specs.Words.{words, space, is_skipped, is_printable, is_name, is_name_byte};
+
+use std::alloc::{AllocError, Global};
+
+/// The words of a line, which stand between spaces.
+pub(crate) fn words(alloc: Global, line: &[u8]) -> Result<Vec<&[u8]>, AllocError>
+    ensures { IfOk result (λ v. map (λ w. w.now) v.items ≡ words line.now) }
+{
+    line.split(|byte| *byte == b' ')
+        .filter(|word| !word.is_empty())
+        .collect(alloc)
+}
+
+/// Whether a line is passed over: it is empty, a comment, or of spaces alone.
+pub(crate) fn is_skipped(line: &[u8]) -> bool
+    ensures { result ≡ is_skipped line.now }
+{
+    match line {
+        [b'#', ..] => true,
+        _ => is_blank(line),
+    }
+}
+
+fn is_blank(line: &[u8]) -> bool
+    ensures { result ≡ list_all (λ b. b == space) line.now }
+{
+    line.iter().all(|byte| *byte == b' ')
+}
+
+/// Whether each byte is a space or a visible ASCII character.
+pub(crate) fn is_printable(line: &[u8]) -> bool
+    ensures { result ≡ list_all is_printable line.now }
+{
+    line.iter().all(|byte| matches!(*byte, b' '..=b'~'))
+}
+
+/// Whether a word is a name: 1 to 32 lower-case letters, digits and `_`, the first a letter.
+pub(crate) fn is_name(word: &[u8]) -> bool
+    ensures { result ≡ is_name word.now }
+{
+    match word {
+        [first, rest @ ..] => first.is_ascii_lowercase() && is_of_name_bytes(rest) && rest.len() < 32,
+        [] => false,
+    }
+}
+
+fn is_of_name_bytes(word: &[u8]) -> bool
+    ensures { result ≡ list_all is_name_byte word.now }
+{
+    word.iter()
+        .all(|byte| matches!(*byte, b'a'..=b'z' | b'0'..=b'9' | b'_'))
+}
+
+/// Whether a word is this text.
+pub(crate) fn is_word(word: &[u8], text: &[u8]) -> bool
+    ensures { result ≡ same_bytes word.now text.now }
+{
+    word == text
+}
