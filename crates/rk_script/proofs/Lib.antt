@@ -1,1 +1,4 @@
 mod Examples
+pub mod Texts
+pub mod Escapes
+pub mod Writers

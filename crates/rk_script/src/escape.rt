@@ -2,6 +2,7 @@
 ghost use Rattle.std.specs.Prelude.{◌≡◌, ◌<◌, ◌++◌, take, IfOk, OnOk, OnErr, IfSome, MatchOption, length, Some, None, vec_len, option_map, option_and_then};
 ghost use Rattle.rk_script.specs.Words.{hex_digit, hex_value, hex_byte, is_plain, escaped_byte, escaped_bytes, escaped, unescaped, unescaped_bytes, byte_before};
 
+use crate::words::is_word;
 use rk_outside::{Bytes, NoMemory};
 use std::alloc::{AllocError, Global};
 
@@ -43,7 +44,7 @@ fn is_plain(byte: u8) -> bool
 pub(crate) fn unescape(alloc: Global, word: &[u8]) -> Result<Option<Bytes>, NoMemory>
     ensures { IfOk result (λ bytes. bytes ≡ unescaped word.now) }
 {
-    if word == b"%-".as_slice() {
+    if is_word(word, b"%-") {
         return Ok(Some(Bytes::from_vec(Vec::new(alloc))));
     }
     let mut bytes = Vec::new(alloc);
