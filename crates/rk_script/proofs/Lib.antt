@@ -2,3 +2,6 @@ mod Examples
 pub mod Texts
 pub mod Escapes
 pub mod Writers
+pub mod KeyTests
+pub mod Reading
+pub mod Events

@@ -1,7 +1,7 @@
 -- Command files: what a line asks for, the names that are in use, and a whole file.
-use Rattle.std.specs.Prelude.{ℕ, ◌+◌, nat_le, nat_lt, Bool, false, not, ◌&&◌, List, [], ◌∷◌, ◌++◌, length, unwrap_or, if◌then◌else◌, Option, Some, None, Result, Ok, Err, codes}
+use Rattle.std.specs.Prelude.{◌≡◌, ℕ, ◌+◌, nat_le, nat_lt, Bool, false, not, ◌&&◌, List, [], ◌∷◌, ◌++◌, length, unwrap_or, if◌then◌else◌, Option, Some, None, Result, Ok, Err, codes}
 use Rattle.std.specs.List.{list_all, list_any}
-use Rattle.std.specs.Option.{option_map_or, option_and_then}
+use Rattle.std.specs.Option.{option_map, option_map_or, option_and_then}
 use Rattle.std.specs.Ordering.{is_lt}
 use Rattle.rk_key.specs.Keys.{key_cmp}
 use Rattle.rk_model.specs.Named.{named, with_named}
@@ -11,6 +11,8 @@ use Rattle.rk_script.specs.Words.{lines, words, is_skipped, is_printable, is_nam
 use Rattle.rk_script.specs.declared.line.Event.{Event}
 use Rattle.rk_script.specs.declared.line.Event.TheVariants.{RangeSet, Commit, Iter, First, Next}
 use Rattle.rk_script.specs.declared.line.Line.{Line}
+use Rattle.rk_script.specs.declared.line.ScriptError.{ScriptError}
+use Rattle.rk_script.specs.declared.line.ScriptError.TheVariants as refusals
 use Rattle.rk_script.specs.declared.line.Why.{Why}
 use Rattle.rk_script.specs.declared.line.Why.TheVariants.{Word}
 
@@ -26,11 +28,11 @@ most_writers = 64
 abbrev pub most_iterators : ℕ
 most_iterators = 100
 
--- a line of one name
-abbrev pub of_one_name : (List ℕ → Event) → List (List ℕ) → Option Event
-of_one_name event [] = None
-of_one_name event (name ∷ []) = if is_name name then Some (event name) else None
-of_one_name event (name ∷ word ∷ words) = None
+-- the name that the words are
+abbrev pub one_name : List (List ℕ) → Option (List ℕ)
+one_name [] = None
+one_name (name ∷ []) = if is_name name then Some name else None
+one_name (name ∷ word ∷ words) = None
 
 -- a range key set whose keys, suffix and value are as they must be
 abbrev pub range_set : List ℕ → List ℕ → List ℕ → List ℕ → List ℕ → Option Event
@@ -60,10 +62,10 @@ abbrev pub event_of : List (List ℕ) → Option Event
 event_of [] = None
 event_of (word ∷ words) =
     if same_bytes word (codes "rset") then of_range_set words
-    else (if same_bytes word (codes "commit") then of_one_name Commit words
-    else (if same_bytes word (codes "iter") then of_one_name Iter words
-    else (if same_bytes word (codes "first") then of_one_name First words
-    else (if same_bytes word (codes "next") then of_one_name Next words
+    else (if same_bytes word (codes "commit") then option_map Commit (one_name words)
+    else (if same_bytes word (codes "iter") then option_map Iter (one_name words)
+    else (if same_bytes word (codes "first") then option_map First (one_name words)
+    else (if same_bytes word (codes "next") then option_map Next (one_name words)
     else None))))
 
 -- The names in use: each writer with the count of its batch's operations, and each iterator
@@ -131,3 +133,9 @@ read_from n names (line ∷ lines) =
 -- the lines of a file that aren't skipped, or its first line that is not of the grammar
 abbrev pub script : List ℕ → Result (List Line) BadLine
 script file = read_from 1 no_names (lines file)
+
+-- Why a file is refused: memory may run out at any time, and a line is named only where the file stops to be
+-- of the grammar at it.
+abbrev pub IsScriptRefusal : Result (List Line) BadLine → ScriptError → Type 0
+IsScriptRefusal read refusals.Memory = Unit {0}
+IsScriptRefusal read (refusals.BadLine line why) = read ≡ Err (record { line = line; why = why })

@@ -1,12 +1,11 @@
 // What the words of a line ask for.
 ghost use Rattle.std.specs.Prelude.{◌≡◌, IfOk, Some, None, map, if◌then◌else◌};
-ghost use Rattle.rk_script.specs.KeyTests.{is_suffix, is_bare_key};
-ghost use Rattle.rk_script.specs.Script.{event_of, of_one_name, of_range_set, of_five_words, range_set};
+ghost use Rattle.rk_script.specs.Script.{event_of, one_name, of_range_set, of_five_words, range_set};
 
 use crate::Event;
 use crate::escape::unescape;
+use crate::keys::{bare_key, suffix_of};
 use crate::words::{is_name, is_word};
-use rk_key::{KeyError, Suffix, UserKey, Which};
 use rk_outside::{Bytes, NoMemory};
 use std::alloc::Global;
 

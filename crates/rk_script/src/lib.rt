@@ -6,9 +6,13 @@
 
 mod error;
 mod escape;
+mod event;
+mod keys;
 mod line;
 mod names;
+mod read;
 mod words;
 
 pub use escape::{push_escaped, push_escaped_bytes};
 pub use line::{Event, Line, ScriptError, Why};
+pub use read::read_script;
