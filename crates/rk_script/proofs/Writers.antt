@@ -1,5 +1,5 @@
 -- A list of writers in which the first with a name gets another count.
-use Rattle.std.proofs.Common.{◌≡◌, ℕ, ◌+◌, ◌<◌, ◌++◌, Bool, true, cond, List, [], ◌∷◌, length, get_or, set, take, drop, refl, sym, ap, ◌∙◌, arith, add-one}
+use Rattle.std.proofs.Common.{◌≡◌, ℕ, ◌+◌, ◌<◌, ◌++◌, true, cond, List, ◌∷◌, length, get_or, set, take, drop, sym, ap, ◌∙◌, add-one}
 use Rattle.std.proofs.lemmas.List.{drop_more, set_split, take_at, length-set}
 use Rattle.rk_model.specs.Named.{with_named}
 use Rattle.rk_model.specs.Spans.{same_bytes}

@@ -82,7 +82,14 @@ fn of_five_words(
     let Some(value) = unescape(alloc, value)? else {
         return Ok(None);
     };
-    range_set(alloc, writer, start.bytes(), end.bytes(), suffix.bytes(), value)
+    range_set(
+        alloc,
+        writer,
+        start.bytes(),
+        end.bytes(),
+        suffix.bytes(),
+        value,
+    )
 }
 
 fn range_set(

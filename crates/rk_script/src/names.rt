@@ -5,7 +5,8 @@ ghost use Rattle.rk_model.specs.Named.{named, with_named};
 ghost use Rattle.rk_model.specs.Spans.{same_bytes};
 ghost use Rattle.rk_script.specs.Script.{is_accepted, names_after, no_names, count_of, is_among};
 
-use crate::{Event, words::is_word};
+use crate::Event;
+use crate::words::is_word;
 use rk_outside::{Bytes, NoMemory};
 use std::alloc::Global;
 use std::marker::Model;

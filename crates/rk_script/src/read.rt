@@ -40,11 +40,7 @@ pub fn read_script(alloc: Global, bytes: &[u8]) -> Result<Vec<Line>, ScriptError
 }
 
 /// What a line asks for, where the names let it stand.
-fn accepted_event(
-    alloc: Global,
-    names: &NamesInUse,
-    line: &[u8],
-) -> Result<Option<Event>, NoMemory>
+fn accepted_event(alloc: Global, names: &NamesInUse, line: &[u8]) -> Result<Option<Event>, NoMemory>
     ensures event { IfOk result (λ event. event ≡ accepted_event names.now line.now) }
     ensures accepted { IfOk result
         (λ event. IfSome event (λ event. is_accepted names.now event ≡ true)) }

@@ -44,7 +44,9 @@ pub(crate) fn is_name(word: &[u8]) -> bool
     ensures { result ≡ is_name word.now }
 {
     match word {
-        [first, rest @ ..] => first.is_ascii_lowercase() && is_of_name_bytes(rest) && rest.len() < 32,
+        [first, rest @ ..] => first.is_ascii_lowercase()
+            && is_of_name_bytes(rest)
+            && rest.len() < 32,
         [] => false,
     }
 }
