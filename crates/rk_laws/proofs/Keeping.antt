@@ -14,9 +14,9 @@ use Rattle.rk_model.specs.declared.op.Entry.{Entry}
 use Rattle.rk_model.specs.declared.span.SuffixValue.{SuffixValue}
 use Rattle.rk_laws.specs.KeptCells.{KeptGivesCells, NumbersDiffer, Newer, KeptAtBottomGivesCells}
 use Rattle.rk_laws.proofs.Lists.{filter_twice, filter_swap, filter_none}
-use Rattle.rk_laws.proofs.Members.{Among, Ascending, among_all, all_among, among_append, among_left, among_right, among_filter, filter_among, first_among, any_from, any_gives, any_false, none_any}
+use Rattle.rk_laws.proofs.Members.{Among, among_contained, Ascending, among_all, all_among, among_append, among_left, among_right, among_filter, filter_among, first_among, any_from, any_gives, any_false, none_any}
 use Rattle.rk_laws.proofs.Plain.{cover_of, value_of}
-use Rattle.rk_laws.proofs.Stripes.{pairs_head, pairs_tail, stripes_ascend, among_contained, together, lowest_below}
+use Rattle.rk_laws.proofs.Stripes.{pairs_head, pairs_tail, same_number, stripes_ascend, together, lowest_below}
 use Rattle.rk_laws.proofs.Dropped.{Latest, none, some, latest, ends_after, SetsUnder, whole, less, less_within, less_or_dropped}
 use Rattle.rk_laws.proofs.Stays.{keeps, newest_in, newer_point, newest_of, stays, points_stay, ender_shadows, not_kept, point_shadows, why_dropped, Why, shadowed, lowest, shadow_seen, shadow_points}
 
@@ -89,13 +89,6 @@ kept_gives_cells older es newer stripes n x up of =
 
     false_true : false ≡ true → ⊥
     false_true h = cc
-
-same_number : (l : List Entry) (e f : Entry) → NumbersDiffer l → Among e l → Among f l → e.seq ≡ f.seq → e ≡ f
-same_number [] e f h m i s = absurd m
-same_number (x ∷ xs) e f h (inl p) (inl q) s = p ∙ sym q
-same_number (x ∷ xs) e f h (inl p) (inr i) s = absurd (among_all (λ g. x.seq ≢ g.seq) xs f (pairs_head (λ e f. e.seq ≢ f.seq) x xs h) i (sym (ap (λ (z : Entry). z.seq) p) ∙ s))
-same_number (x ∷ xs) e f h (inr m) (inl q) s = absurd (among_all (λ g. x.seq ≢ g.seq) xs e (pairs_head (λ e f. e.seq ≢ f.seq) x xs h) m (sym (ap (λ (z : Entry). z.seq) q) ∙ sym s))
-same_number (x ∷ xs) e f h (inr m) (inr i) s = same_number xs e f (pairs_tail (λ e f. e.seq ≢ f.seq) x xs h) m i s
 
 newer_gives : (l m : List Entry) (e f : Entry) → Newer l m → Among e l → Among f m → e.seq < f.seq
 newer_gives l m e f h i j =

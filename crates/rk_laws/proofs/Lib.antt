@@ -12,5 +12,6 @@ pub mod Stripes
 pub mod Dropped
 pub mod Stays
 pub mod Keeping
+pub mod Alike
 pub mod Pairs
 pub mod After

@@ -1,5 +1,5 @@
 -- What is among the elements of a list, and lists that rise strictly.
-use Rattle.std.proofs.Common.{◌≡◌, ℕ, Bool, true, false, not, ◌&&◌, ◌||◌, cond, List, [], ◌∷◌, ◌++◌, filter, Option, Some, None, refl, ap, sym, ◌∙◌, ◌⊎◌, inl, inr, subst, arith, rules}
+use Rattle.std.proofs.Common.{◌≡◌, ℕ, zero, suc, ◌<◌, length, get_or, map, Contains, Bool, true, false, not, ◌&&◌, ◌||◌, cond, List, [], ◌∷◌, ◌++◌, filter, Option, Some, None, refl, ap, sym, ◌∙◌, ◌⊎◌, inl, inr, subst, arith, rules}
 use Rattle.std.specs.List.{AllByRecursion, list_any, list_all, flat_map, filter_map, cons_option}
 use Rattle.rk_model.specs.Lists.{first_of}
 
@@ -177,3 +177,23 @@ module _ {X : Type 0} (lt : X → X → Bool) (back : (x y : X) → lt x y ≡ t
       let e : x ≡ y = heads x y xs ys h k (p x (inl refl)) (q y (inl refl)) in
       let f : xs ≡ ys = same_ascending xs ys h.1 k.1 (λ a m. rest x y a xs ys e h m (p a (inr m))) (λ a m. rest y x a ys xs (sym e) k m (q a (inr m))) in
       rw (e, f) refl
+
+pub among_map : {X Y : Type 0} (f : X → Y) (xs : List X) (x : X) → Among x xs → Among (f x) (map f xs)
+among_map f [] x m = absurd m
+among_map f (y ∷ ys) x (inl e) = inl (ap f e)
+among_map f (y ∷ ys) x (inr m) = inr (among_map f ys x m)
+
+pub map_among : {X Y : Type 0} (f : X → Y) (xs : List X) (y : Y) → Among y (map f xs) → (x : X) × (Among x xs × (y ≡ f x))
+map_among f [] y m = absurd m
+map_among f (x ∷ xs) y (inl e) = (x, (inl refl, e))
+map_among f (x ∷ xs) y (inr m) = let (z, k) = map_among f xs y m in (z, (inr k.0, k.1))
+
+pub among_contained : {X : Type 0} (xs : List X) (x : X) → Contains xs x → Among x xs
+among_contained [] x (k, l, e) = absurd (omega arith)
+among_contained (y ∷ ys) x (zero, l, e) = inl (sym e)
+among_contained (y ∷ ys) x (suc k, l, e) = inr (among_contained ys x (k, omega arith, e))
+
+pub contains_among : {X : Type 0} (xs : List X) (x : X) → Among x xs → Contains xs x
+contains_among [] x m = absurd m
+contains_among (y ∷ ys) x (inl e) = (zero, omega arith, sym e)
+contains_among (y ∷ ys) x (inr m) = let (k, l, e) = contains_among ys x m in (suc k, omega arith, e)

@@ -18,7 +18,7 @@ use Rattle.rk_laws.proofs.Lists.{filter_twice, filter_swap, filter_none}
 use Rattle.rk_laws.proofs.Members.{Among, Ascending, among_all, all_among, among_append, among_left, among_right, among_filter, filter_among, first_among, any_from, any_gives, any_false, none_any}
 use Rattle.rk_laws.proofs.Order.{suffix_total, eq_is}
 use Rattle.rk_laws.proofs.Plain.{cover_of, value_of}
-use Rattle.rk_laws.proofs.Stripes.{pairs_head, pairs_tail, stripes_ascend, among_contained, together, lowest_below}
+use Rattle.rk_laws.proofs.Stripes.{pairs_head, pairs_tail, stripes_ascend, together, lowest_below}
 use Rattle.rk_laws.proofs.Dropped.{Latest, none, some, latest, any_less, ends_after, SetsUnder, standing_less, whole, less, less_within, less_or_dropped, cover_of_less, filter_less, filter_on}
 
 -- an operation that shadows a set ends it, and what shadows an ender ends the same

@@ -7,6 +7,8 @@ use Rattle.std.proofs.lemmas.Bool.{lt-ltb, le-ltb, ltb-true, ltb-false, leb-true
 use Rattle.std.proofs.lemmas.List.Kept.{AllPairs-from_increasing}
 use Rattle.std.proofs.lemmas.List.Elements.{recursion_from_All}
 use Rattle.rk_model.specs.Lists.{first_of}
+use Rattle.rk_model.specs.declared.op.Entry.{Entry}
+use Rattle.rk_laws.specs.KeptCells.{NumbersDiffer}
 use Rattle.rk_model.specs.Kept.{stripe_of, same_stripe, in_lowest}
 use Rattle.rk_laws.proofs.Members.{Among, Ascending, all_among, among_all, among_filter, filter_among, first_among, first_least, ascending_filter}
 
@@ -16,17 +18,20 @@ pairs_head R x xs h = recursion_from_All (R x) xs (λ k d m. h 0 (suc k) d (omeg
 pub pairs_tail : {X : Type 0} (R : X → X → Type 0) (x : X) (xs : List X) → AllPairs R (x ∷ xs) → AllPairs R xs
 pairs_tail R x xs h i j d m n = h (suc i) (suc j) d (omega arith) (omega arith)
 
+-- of entries with numbers that differ, one number is one entry
+pub same_number : (l : List Entry) (e f : Entry) → NumbersDiffer l → Among e l → Among f l → e.seq ≡ f.seq → e ≡ f
+same_number [] e f h m i s = absurd m
+same_number (x ∷ xs) e f h (inl p) (inl q) s = p ∙ sym q
+same_number (x ∷ xs) e f h (inl p) (inr i) s = absurd (among_all (λ g. x.seq ≢ g.seq) xs f (pairs_head (λ e f. e.seq ≢ f.seq) x xs h) i (sym (ap (λ (z : Entry). z.seq) p) ∙ s))
+same_number (x ∷ xs) e f h (inr m) (inl q) s = absurd (among_all (λ g. x.seq ≢ g.seq) xs e (pairs_head (λ e f. e.seq ≢ f.seq) x xs h) m (sym (ap (λ (z : Entry). z.seq) q) ∙ sym s))
+same_number (x ∷ xs) e f h (inr m) (inr i) s = same_number xs e f (pairs_tail (λ e f. e.seq ≢ f.seq) x xs h) m i s
+
 ascends : (stripes : List ℕ) → AllPairs (λ s t. s < t) stripes → Ascending nat_lt stripes
 ascends [] h = tt
 ascends (s ∷ ss) h = (all_among (λ t. nat_lt s t ≡ true) ss (λ t m. lt-ltb s t (among_all (λ t. s < t) ss t (pairs_head (λ s t. s < t) s ss h) m)), ascends ss (pairs_tail (λ s t. s < t) s ss h))
 
 pub stripes_ascend : (stripes : List ℕ) → IsStrictlyIncreasing stripes → Ascending nat_lt stripes
 stripes_ascend stripes h = ascends stripes (AllPairs-from_increasing stripes h)
-
-pub among_contained : {X : Type 0} (xs : List X) (x : X) → Contains xs x → Among x xs
-among_contained [] x (k, l, e) = absurd (omega arith)
-among_contained (y ∷ ys) x (zero, l, e) = inl (sym e)
-among_contained (y ∷ ys) x (suc k, l, e) = inr (among_contained ys x (k, omega arith, e))
 
 -- the stripe of a number
 pub record IsStripe (stripes : List ℕ) (m s : ℕ) : Type 0 where

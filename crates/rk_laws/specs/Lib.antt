@@ -3,3 +3,4 @@ pub mod Newer
 pub mod Neighbours
 pub mod SameCells
 pub mod KeptCells
+pub mod SameEntries

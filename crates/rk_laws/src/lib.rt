@@ -10,6 +10,7 @@ mod neighbours;
 mod newer;
 mod prefixes;
 mod same_cells;
+mod same_entries;
 
 pub use kept_cells::{
     entries_kept_at_the_bottom_give_the_same_cells, kept_entries_give_the_same_cells,
@@ -31,4 +32,8 @@ pub use same_cells::{
     a_move_leads_to_a_key_within_the_bounds, changes_of_span_are_those_of_the_covers,
     moves_are_those_of_the_cells, positions_are_those_of_the_cells, reports_are_those_of_the_cells,
     starts_of_spans_are_those_of_the_covers, widest_spans_are_those_of_the_covers,
+};
+pub use same_entries::{
+    cover_is_that_of_what_the_spans_do, point_is_that_of_its_operations_in_any_order,
+    the_order_of_entries_does_not_matter,
 };
