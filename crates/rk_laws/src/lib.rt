@@ -21,7 +21,7 @@ pub use neighbours::{
     each_key_of_a_span_has_its_cover, positions_rise_strictly,
 };
 pub use newer::{
-    cover_after_an_entry_is_that_of_the_cover_before,
+    apply, cover_after_an_entry_is_that_of_the_cover_before,
     point_after_an_entry_is_that_of_the_point_before,
 };
 pub use prefixes::{

@@ -1,4 +1,14 @@
-ghost use Rattle.rk_laws.specs.Newer.{CoverAfterEntry, PointAfterEntry};
+// One more entry over a key, newer than those before it.
+ghost use Rattle.std.specs.Prelude.{◌≡◌, OnOk};
+ghost use Rattle.std.specs.List.{position};
+ghost use Rattle.std.specs.Ordering.{is_lt};
+ghost use Rattle.rk_key.specs.Keys.{suffix_cmp};
+ghost use Rattle.rk_model.specs.Covers.{insert_pair};
+ghost use Rattle.rk_laws.specs.Newer.{without, with_entry, CoverAfterEntry, PointAfterEntry};
+
+use rk_key::Suffix;
+use rk_model::{Op, SuffixValue};
+use rk_outside::NoMemory;
 
 /// The cover after one more entry, numbered above those over the key, is that of the entry and of the cover
 /// before: a set replaces or inserts its suffix, an unset removes it, and a delete empties the cover.
@@ -11,3 +21,50 @@ pub fn cover_after_an_entry_is_that_of_the_cover_before()
 pub fn point_after_an_entry_is_that_of_the_point_before()
     ensures { PointAfterEntry }
 {}
+
+/// Makes of a cover what it is after one more operation over the key, newer than those that made it.
+///
+/// # Errors
+///
+/// `NoMemory` where the list or the value of a set finds no memory.
+pub fn apply(pairs: &mut Vec<SuffixValue>, op: &Op) -> Result<(), NoMemory>
+    ensures { OnOk result (pairs.new.items ≡ with_entry op.now pairs.old.items) }
+{
+    match op {
+        Op::Put { .. } | Op::Del { .. } => {}
+        Op::RangeSet { suffix, value, .. } => {
+            let pair = SuffixValue {
+                suffix: suffix.copy(),
+                value: value.copy()?,
+            };
+            remove(pairs, suffix);
+            insert(pairs, pair)?;
+        }
+        Op::RangeUnset { suffix, .. } => remove(pairs, suffix),
+        Op::RangeDel { .. } => pairs.clear(),
+    }
+    Ok(())
+}
+
+/// Removes the pair of a suffix.
+fn remove(pairs: &mut Vec<SuffixValue>, suffix: &Suffix)
+    ensures { pairs.new.items ≡ without suffix.now pairs.old.items }
+{
+    pairs.retain(|q| !suffix.cmp(&q.suffix).is_eq());
+}
+
+/// Puts a pair before the first with a greater suffix.
+fn insert(pairs: &mut Vec<SuffixValue>, pair: SuffixValue) -> Result<(), NoMemory>
+    ensures { OnOk result (pairs.new.items ≡ insert_pair pair pairs.old.items) }
+{
+    let at = first_greater(pairs, &pair).unwrap_or(pairs.len());
+    pairs.insert(at, pair)?;
+    Ok(())
+}
+
+/// The place of the first pair with a greater suffix.
+fn first_greater(pairs: &[SuffixValue], pair: &SuffixValue) -> Option<usize>
+    ensures { result ≡ position (λ q. is_lt (suffix_cmp pair.now.suffix q.suffix)) pairs.now }
+{
+    pairs.iter().position(|q| pair.suffix < q.suffix)
+}
