@@ -5,3 +5,4 @@ pub mod Writers
 pub mod KeyTests
 pub mod Reading
 pub mod Events
+pub mod Printing

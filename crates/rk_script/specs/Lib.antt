@@ -1,3 +1,4 @@
 pub mod Words
 pub mod KeyTests
 pub mod Script
+pub mod Laws

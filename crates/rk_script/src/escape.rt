@@ -1,6 +1,7 @@
 // Words for bytes.
 ghost use Rattle.std.specs.Prelude.{◌≡◌, ◌<◌, ◌++◌, take, IfOk, OnOk, OnErr, IfSome, MatchOption, length, Some, None, vec_len, option_map, option_and_then};
 ghost use Rattle.rk_script.specs.Words.{hex_digit, hex_value, hex_byte, is_plain, escaped_byte, escaped_bytes, escaped, unescaped, unescaped_bytes, byte_before};
+ghost use Rattle.rk_script.specs.Laws.{ReadsBackWhatIsPrinted};
 
 use crate::words::is_word;
 use rk_outside::{Bytes, NoMemory};
@@ -39,6 +40,11 @@ fn is_plain(byte: u8) -> bool
 {
     matches!(byte, b'!'..=b'~') && byte != b'%'
 }
+
+/// Printed bytes are one word, and reading it gives the bytes back, whatever they are.
+pub fn reads_back_what_is_printed()
+    ensures { ReadsBackWhatIsPrinted }
+{}
 
 /// The bytes that a word stands for, if it is one for bytes.
 pub(crate) fn unescape(alloc: Global, word: &[u8]) -> Result<Option<Bytes>, NoMemory>

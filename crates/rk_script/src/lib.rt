@@ -2,6 +2,7 @@
 //!
 //! It stands on rk_key, rk_outside and rk_model. Its main contract is that of `read_script`, which answers
 //! exactly the lines that the bytes of a file spell, or the first line that is not of the grammar.
+//! `push_escaped` prints bytes as one word, and reading that word gives the bytes back.
 #![tactic(auto)]
 
 mod error;
@@ -11,8 +12,10 @@ mod keys;
 mod line;
 mod names;
 mod read;
+#[cfg(test)]
+mod tests;
 mod words;
 
-pub use escape::{push_escaped, push_escaped_bytes};
+pub use escape::{push_escaped, push_escaped_bytes, reads_back_what_is_printed};
 pub use line::{Event, Line, ScriptError, Why};
 pub use read::read_script;
