@@ -1,6 +1,8 @@
+pub mod Ends
 mod Examples
 pub mod Filters
 pub mod Orders
 pub mod Pairs
 pub mod Points
+pub mod Spans
 pub mod Walks

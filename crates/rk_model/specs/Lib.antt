@@ -6,3 +6,4 @@ pub mod Positions
 pub mod Moves
 pub mod Kept
 pub mod Named
+pub mod Plain
