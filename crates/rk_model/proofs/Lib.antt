@@ -4,5 +4,6 @@ pub mod Filters
 pub mod Orders
 pub mod Pairs
 pub mod Points
+pub mod Positions
 pub mod Spans
 pub mod Walks

@@ -3,4 +3,6 @@ mod cover;
 mod covers;
 mod ends;
 mod keys;
+mod masks;
+mod positions;
 mod spans;
