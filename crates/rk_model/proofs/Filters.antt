@@ -1,6 +1,6 @@
 -- Searches of what a filter keeps.
 use Rattle.std.proofs.Common.{◌≡◌, ◌∙◌, ap, Bool, true, false, cond, List, [], ◌∷◌, Some, refl}
-use Rattle.std.specs.Prelude.{◌&&◌, ◌||◌, not, filter, map, Option}
+use Rattle.std.specs.Prelude.{◌&&◌, ◌||◌, not, filter, map}
 use Rattle.std.specs.List.{list_any, list_all, find}
 use Rattle.std.specs.Option.{option_map}
 use Rattle.rk_model.specs.Lists.{first_of}
@@ -51,22 +51,22 @@ pub list_all-filter : {A : Type 0} (r p : A → Bool) (xs : List A) → list_all
 list_all-filter r p [] = refl
 list_all-filter r p (x ∷ xs) =
     elim (p x) as (λ b. list_all r (cond b (x ∷ filter p xs) (filter p xs)) ≡ ((not b || r x) && list_all (λ y. not (p y) || r y) xs)) [
-      true ↦ ap (λ b. r x && b) (list_all-filter r p xs)
-    | false ↦ list_all-filter r p xs
+      | true ↦ ap (λ b. r x && b) (list_all-filter r p xs)
+      | false ↦ list_all-filter r p xs
     ]
 
 pub find-map : {A B : Type 0} (f : A → B) (p : B → Bool) (xs : List A) → find p (map f xs) ≡ option_map f (find (λ x. p (f x)) xs)
 find-map f p [] = refl
 find-map f p (x ∷ xs) =
     elim (p (f x)) as (λ b. cond b (Some (f x)) (find p (map f xs)) ≡ option_map f (cond b (Some x) (find (λ y. p (f y)) xs))) [
-      true ↦ refl
-    | false ↦ find-map f p xs
+      | true ↦ refl
+      | false ↦ find-map f p xs
     ]
 
 pub filter-map : {A B : Type 0} (f : A → B) (p : B → Bool) (xs : List A) → filter p (map f xs) ≡ map f (filter (λ x. p (f x)) xs)
 filter-map f p [] = refl
 filter-map f p (x ∷ xs) =
     elim (p (f x)) as (λ b. cond b (f x ∷ filter p (map f xs)) (filter p (map f xs)) ≡ map f (cond b (x ∷ filter (λ y. p (f y)) xs) (filter (λ y. p (f y)) xs))) [
-      true ↦ ap (λ l. f x ∷ l) (filter-map f p xs)
-    | false ↦ filter-map f p xs
+      | true ↦ ap (λ l. f x ∷ l) (filter-map f p xs)
+      | false ↦ filter-map f p xs
     ]

@@ -1,5 +1,5 @@
 -- Spans, as searches of the ends find them.
-use Rattle.std.proofs.Common.{◌≡◌, ℕ, ◌≢◌, ◌∙◌, suc, sym, ap, arith, List, [], ◌∷◌, ◌++◌, length, map, Bool, true, false, cond, Option, Some, None, refl, append_assoc}
+use Rattle.std.proofs.Common.{◌≡◌, ℕ, ◌≢◌, ◌∙◌, suc, sym, ap, List, [], ◌∷◌, ◌++◌, length, map, Bool, true, false, cond, Option, Some, None, refl, append_assoc}
 use Rattle.std.specs.Prelude.{◌&&◌, ◌||◌, not, filter, if◌then◌else◌}
 use Rattle.std.specs.List.{list_all, find}
 use Rattle.std.specs.Option.{option_map, option_and_then}

@@ -11,4 +11,5 @@ mod span;
 pub use cursor::Cursor;
 pub use op::{Entry, Op};
 pub use options::IterOptions;
+pub use plain::Plain;
 pub use span::{RangeKey, RangeKeys, RangeKind, Span, SuffixValue};

@@ -2,6 +2,7 @@
 ghost use Rattle.std.specs.Prelude.{◌≡◌, ◌&&◌, IfOk, OnOk, MatchOption, [], ◌∷◌, map, if◌then◌else◌};
 ghost use Rattle.rk_model.specs.Covers.{cover};
 ghost use Rattle.rk_model.specs.Spans.{at_or_above, above, below, in_bounds, op_ends, insert_key, written_ends};
+ghost use Rattle.rk_model.specs.Plain.{covered_ends};
 
 use crate::copies::copy_key;
 use crate::plain::cover::Cover;
@@ -78,7 +79,11 @@ impl Op {
     }
 }
 
-fn insert_inside(keys: &mut Vec<UserKey>, options: &IterOptions, x: &UserKey) -> Result<(), NoMemory>
+fn insert_inside(
+    keys: &mut Vec<UserKey>,
+    options: &IterOptions,
+    x: &UserKey,
+) -> Result<(), NoMemory>
     ensures { OnOk result (keys.new.items ≡ (if above options.now.lower x.now && below options.now.upper x.now then insert_key x.now keys.old.items else keys.old.items)) }
 {
     if options.has_inside(x) {
@@ -88,7 +93,11 @@ fn insert_inside(keys: &mut Vec<UserKey>, options: &IterOptions, x: &UserKey) ->
 }
 
 /// The bounds, and the written ends strictly inside them.
-fn written_ends(alloc: Global, entries: &[Entry], options: &IterOptions) -> Result<Vec<UserKey>, NoMemory>
+fn written_ends(
+    alloc: Global,
+    entries: &[Entry],
+    options: &IterOptions,
+) -> Result<Vec<UserKey>, NoMemory>
     ensures { IfOk result (λ keys. keys.items ≡ written_ends entries.now options.now) }
 {
     let mut keys = Vec::new(alloc);
@@ -103,7 +112,11 @@ fn written_ends(alloc: Global, entries: &[Entry], options: &IterOptions) -> Resu
     Ok(keys)
 }
 
-fn with_covers(alloc: Global, entries: &[Entry], keys: &[UserKey]) -> Result<Vec<EndCover>, NoMemory>
+fn with_covers(
+    alloc: Global,
+    entries: &[Entry],
+    keys: &[UserKey],
+) -> Result<Vec<EndCover>, NoMemory>
     ensures { IfOk result (λ ends. ends.items ≡ map (λ a. record { key = a; cover = cover entries.now a }) keys.now) }
 {
     let mut ends = Vec::new(alloc);
@@ -114,4 +127,16 @@ fn with_covers(alloc: Global, entries: &[Entry], keys: &[UserKey]) -> Result<Vec
         })?;
     }
     Ok(ends)
+}
+
+/// The written ends with their covers.
+pub(crate) fn covered_ends(
+    alloc: Global,
+    entries: &[Entry],
+    options: &IterOptions,
+) -> Result<Vec<EndCover>, NoMemory>
+    ensures { IfOk result (λ ends. ends.items ≡ covered_ends entries.now options.now) }
+{
+    let keys = written_ends(alloc, entries, options)?;
+    with_covers(alloc, entries, &keys)
 }

@@ -26,7 +26,13 @@ impl Op {
 }
 
 /// The value of the point on a key, unless it is masked. The pairs are the key's cover.
-pub(crate) fn shown(alloc: Global, entries: &[Entry], options: &IterOptions, x: &UserKey, pairs: &[SuffixValue]) -> Result<Option<Bytes>, NoMemory>
+pub(crate) fn shown(
+    alloc: Global,
+    entries: &[Entry],
+    options: &IterOptions,
+    x: &UserKey,
+    pairs: &[SuffixValue],
+) -> Result<Option<Bytes>, NoMemory>
     requires { pairs.now ≡ cover entries.now x.now }
     ensures { IfOk result (λ value. value ≡ shown entries.now options.now x.now) }
 {
@@ -39,7 +45,12 @@ pub(crate) fn shown(alloc: Global, entries: &[Entry], options: &IterOptions, x: 
     }
 }
 
-fn has_shown(alloc: Global, entries: &[Entry], options: &IterOptions, x: &UserKey) -> Result<bool, NoMemory>
+fn has_shown(
+    alloc: Global,
+    entries: &[Entry],
+    options: &IterOptions,
+    x: &UserKey,
+) -> Result<bool, NoMemory>
     ensures { IfOk result (λ there. there ≡ is_some (shown entries.now options.now x.now)) }
 {
     let pairs = cover(alloc, entries, x)?;
@@ -48,7 +59,13 @@ fn has_shown(alloc: Global, entries: &[Entry], options: &IterOptions, x: &UserKe
 }
 
 /// Whether the key is the start of its span.
-fn begins_span(alloc: Global, entries: &[Entry], options: &IterOptions, ends: &[EndCover], x: &UserKey) -> Result<bool, NoMemory>
+fn begins_span(
+    alloc: Global,
+    entries: &[Entry],
+    options: &IterOptions,
+    ends: &[EndCover],
+    x: &UserKey,
+) -> Result<bool, NoMemory>
     requires { ends.now ≡ covered_ends entries.now options.now }
     ensures { IfOk result (λ begins. begins ≡ begins_span entries.now options.now x.now) }
 {
@@ -58,7 +75,14 @@ fn begins_span(alloc: Global, entries: &[Entry], options: &IterOptions, ends: &[
     }
 }
 
-fn insert_start(keys: &mut Vec<UserKey>, alloc: Global, entries: &[Entry], options: &IterOptions, ends: &[EndCover], x: &UserKey) -> Result<(), NoMemory>
+fn insert_start(
+    keys: &mut Vec<UserKey>,
+    alloc: Global,
+    entries: &[Entry],
+    options: &IterOptions,
+    ends: &[EndCover],
+    x: &UserKey,
+) -> Result<(), NoMemory>
     requires { ends.now ≡ covered_ends entries.now options.now }
     ensures { OnOk result (keys.new.items ≡ (if in_bounds options.now x.now && begins_span entries.now options.now x.now then insert_key x.now keys.old.items else keys.old.items)) }
 {
@@ -69,7 +93,12 @@ fn insert_start(keys: &mut Vec<UserKey>, alloc: Global, entries: &[Entry], optio
 }
 
 /// The starts of spans.
-fn span_starts(alloc: Global, entries: &[Entry], options: &IterOptions, ends: &[EndCover]) -> Result<Vec<UserKey>, NoMemory>
+fn span_starts(
+    alloc: Global,
+    entries: &[Entry],
+    options: &IterOptions,
+    ends: &[EndCover],
+) -> Result<Vec<UserKey>, NoMemory>
     requires { ends.now ≡ covered_ends entries.now options.now }
     ensures { IfOk result (λ keys. keys.items ≡ sorted_keys (starts_among entries.now options.now (map (λ a. a.key) ends.now))) }
 {
@@ -80,7 +109,13 @@ fn span_starts(alloc: Global, entries: &[Entry], options: &IterOptions, ends: &[
     Ok(keys)
 }
 
-fn insert_point(keys: &mut Vec<UserKey>, alloc: Global, entries: &[Entry], options: &IterOptions, e: &Entry) -> Result<(), NoMemory>
+fn insert_point(
+    keys: &mut Vec<UserKey>,
+    alloc: Global,
+    entries: &[Entry],
+    options: &IterOptions,
+    e: &Entry,
+) -> Result<(), NoMemory>
     ensures { OnOk result (keys.new.items ≡ put_in (filter (λ x. in_bounds options.now x && is_some (shown entries.now options.now x)) (put_key e.now.op)) keys.old.items) }
 {
     if let Some(x) = e.op.put_key() {
@@ -92,7 +127,12 @@ fn insert_point(keys: &mut Vec<UserKey>, alloc: Global, entries: &[Entry], optio
 }
 
 /// Puts in the keys within the bounds with a shown point.
-fn insert_points(keys: &mut Vec<UserKey>, alloc: Global, entries: &[Entry], options: &IterOptions) -> Result<(), NoMemory>
+fn insert_points(
+    keys: &mut Vec<UserKey>,
+    alloc: Global,
+    entries: &[Entry],
+    options: &IterOptions,
+) -> Result<(), NoMemory>
     ensures { OnOk result (keys.new.items ≡ put_in (shown_points entries.now options.now entries.now) keys.old.items) }
 {
     for i in (0..entries.len()).rev() {
@@ -103,7 +143,12 @@ fn insert_points(keys: &mut Vec<UserKey>, alloc: Global, entries: &[Entry], opti
 
 /// The keys within the bounds with a shown point, and the starts of spans.
 #[tactic(auto, using(crate::proofs::Positions::positions_are))]
-pub(crate) fn positions(alloc: Global, entries: &[Entry], options: &IterOptions, ends: &[EndCover]) -> Result<Vec<UserKey>, NoMemory>
+pub(crate) fn positions(
+    alloc: Global,
+    entries: &[Entry],
+    options: &IterOptions,
+    ends: &[EndCover],
+) -> Result<Vec<UserKey>, NoMemory>
     requires { ends.now ≡ covered_ends entries.now options.now }
     ensures { IfOk result (λ keys. keys.items ≡ positions entries.now options.now) }
 {

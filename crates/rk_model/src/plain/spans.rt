@@ -55,6 +55,17 @@ impl KeptSpan {
     }
 }
 
+impl KeptSpan {
+    /// Whether another span has the same ends and the same pairs.
+    pub(crate) fn is_same(&self, other: &KeptSpan) -> bool
+        ensures { result ≡ (same_bytes self.now.start other.now.start && same_bytes self.now.end other.now.end && same_cover self.now.cover other.now.cover) }
+    {
+        is_same_bytes(self.start.bytes(), other.start.bytes())
+            && is_same_bytes(self.end.bytes(), other.end.bytes())
+            && is_same_cover(self.cover.pairs(), other.cover.pairs())
+    }
+}
+
 fn is_same_bytes(a: &[u8], b: &[u8]) -> bool
     ensures { result ≡ same_bytes a.now b.now }
 {
@@ -64,7 +75,8 @@ fn is_same_bytes(a: &[u8], b: &[u8]) -> bool
 fn is_same_pair(p: &SuffixValue, q: &SuffixValue) -> bool
     ensures { result ≡ (same_bytes p.now.suffix q.now.suffix && same_bytes p.now.value q.now.value) }
 {
-    is_same_bytes(p.suffix.bytes(), q.suffix.bytes()) && is_same_bytes(p.value.bytes(), q.value.bytes())
+    is_same_bytes(p.suffix.bytes(), q.suffix.bytes())
+        && is_same_bytes(p.value.bytes(), q.value.bytes())
 }
 
 /// Whether two covers have the same bytes.
@@ -87,8 +99,7 @@ pub(crate) fn is_same_cover(ps: &[SuffixValue], qs: &[SuffixValue]) -> bool
 fn has_cover_from(ends: &[EndCover], a: &UserKey, x: &UserKey, pairs: &[SuffixValue]) -> bool
     ensures { result ≡ list_all (λ b. is_lt (key_cmp x.now b.key) || is_lt (key_cmp b.key a.now) || same_cover b.cover pairs.now) ends.now }
 {
-    ends.iter()
-        .all(|b| *x < b.key || b.key < *a || is_same_cover(b.cover.pairs(), pairs))
+    ends.iter().all(|b| *x < b.key || b.key < *a || is_same_cover(b.cover.pairs(), pairs))
 }
 
 /// The least end, not above `x`, from which on the ends up to `x` have the cover.
@@ -96,12 +107,19 @@ fn span_start<'a>(ends: &'a [EndCover], x: &UserKey, pairs: &[SuffixValue]) -> O
     ensures { option_copied result ≡ start_among ends.now x.now pairs.now }
 {
     ends.iter().find(|a| {
-        *x >= a.key && is_same_cover(a.cover.pairs(), pairs) && has_cover_from(ends, &a.key, x, pairs)
+        *x >= a.key
+            && is_same_cover(a.cover.pairs(), pairs)
+            && has_cover_from(ends, &a.key, x, pairs)
     })
 }
 
 /// The least end above `x` that is the upper bound or has another cover.
-fn span_end<'a>(ends: &'a [EndCover], options: &IterOptions, x: &UserKey, pairs: &[SuffixValue]) -> Option<&'a EndCover>
+fn span_end<'a>(
+    ends: &'a [EndCover],
+    options: &IterOptions,
+    x: &UserKey,
+    pairs: &[SuffixValue],
+) -> Option<&'a EndCover>
     ensures { option_copied result ≡ end_among options.now ends.now x.now pairs.now }
 {
     ends.iter().find(|a| {
@@ -116,7 +134,12 @@ fn has_no_pairs(pairs: &[SuffixValue]) -> bool
 }
 
 /// The span of a key with the cover, which is given, found among all ends.
-fn span_among(ends: &[EndCover], options: &IterOptions, x: &UserKey, cover: Cover) -> Result<Option<KeptSpan>, NoMemory>
+fn span_among(
+    ends: &[EndCover],
+    options: &IterOptions,
+    x: &UserKey,
+    cover: Cover,
+) -> Result<Option<KeptSpan>, NoMemory>
     ensures { IfOk result (λ s. s ≡ span_among options.now ends.now x.now cover) }
 {
     if has_no_pairs(cover.pairs()) {
@@ -135,7 +158,13 @@ fn span_among(ends: &[EndCover], options: &IterOptions, x: &UserKey, cover: Cove
 
 /// The widest span of a key, among the ends of the entries within the bounds.
 #[tactic(auto, using(crate::proofs::Spans::span_among_covered))]
-pub(crate) fn widest_span(entries: &[Entry], options: &IterOptions, ends: &[EndCover], x: &UserKey, pairs: Cover) -> Result<Option<KeptSpan>, NoMemory>
+pub(crate) fn widest_span(
+    entries: &[Entry],
+    options: &IterOptions,
+    ends: &[EndCover],
+    x: &UserKey,
+    pairs: Cover,
+) -> Result<Option<KeptSpan>, NoMemory>
     requires ends_there { ends.now ≡ covered_ends entries.now options.now }
     requires pairs_there { pairs ≡ cover entries.now x.now }
     ensures { IfOk result (λ s. s ≡ widest_span entries.now options.now x.now) }
@@ -144,7 +173,13 @@ pub(crate) fn widest_span(entries: &[Entry], options: &IterOptions, ends: &[EndC
 }
 
 /// The same with the cover made here.
-pub(crate) fn span_at(alloc: Global, entries: &[Entry], options: &IterOptions, ends: &[EndCover], x: &UserKey) -> Result<Option<KeptSpan>, NoMemory>
+pub(crate) fn span_at(
+    alloc: Global,
+    entries: &[Entry],
+    options: &IterOptions,
+    ends: &[EndCover],
+    x: &UserKey,
+) -> Result<Option<KeptSpan>, NoMemory>
     requires { ends.now ≡ covered_ends entries.now options.now }
     ensures { IfOk result (λ s. s ≡ widest_span entries.now options.now x.now) }
 {
