@@ -1,9 +1,10 @@
 -- Keys and suffixes that the order does not tell apart have the same bytes.
-use Rattle.std.proofs.Common.{◌≡◌, ℕ, List, [], ◌∷◌, ◌++◌, refl, ap, sym, ◌∙◌, Ordering, Less, Equal, Greater}
+use Rattle.std.proofs.Common.{true, ◌≡◌, ℕ, List, [], ◌∷◌, ◌++◌, refl, ap, sym, ◌∙◌, Ordering, Less, Equal, Greater}
 use Rattle.std.specs.Cmp.Lexicographic.{slice_cmp}
-use Rattle.std.specs.Ordering.{nat_cmp, ordering_then}
-use Rattle.std.proofs.lemmas.Cmp.{ranked}
+use Rattle.std.specs.Ordering.{is_eq, nat_cmp, ordering_then}
+use Rattle.std.proofs.lemmas.Cmp.{ranked, tied_itself}
 use Rattle.rk_key.specs.Keys.{IsSuffix, IsKey, prefix, suffix, suffix_cmp, key_cmp}
+use Rattle.rk_key.specs.Laws.{key_cmp-total, suffix_cmp-total}
 use Rattle.rk_key.proofs.Decimals.{same_number}
 use Rattle.rk_key.proofs.Parts.{prefix-append-suffix}
 
@@ -44,3 +45,21 @@ same_key x y p q e =
     let suffixes : suffix x ≡ suffix y = same_suffix _ _ p.suffix q.suffix both.1 in
     sym (prefix-append-suffix x) ∙ ap (λ start. start ++ suffix x) prefixes
     ∙ ap (λ end. prefix y ++ end) suffixes ∙ prefix-append-suffix y
+
+pub suffix_cmp-refl : (s : List ℕ) → suffix_cmp s s ≡ Equal
+suffix_cmp-refl s = tied_itself suffix_cmp-total s
+
+pub key_cmp-refl : (x : List ℕ) → key_cmp x x ≡ Equal
+key_cmp-refl x = tied_itself key_cmp-total x
+
+is_equal : (o : Ordering) → is_eq o ≡ true → o ≡ Equal
+is_equal Less e = cc
+is_equal Equal e = refl
+is_equal Greater e = cc
+
+-- what `==` answers
+pub same_suffix_from_eq : (s t : List ℕ) → IsSuffix s → IsSuffix t → is_eq (suffix_cmp s t) ≡ true → s ≡ t
+same_suffix_from_eq s t p q e = same_suffix s t p q (is_equal (suffix_cmp s t) e)
+
+pub same_key_from_eq : (x y : List ℕ) → IsKey x → IsKey y → is_eq (key_cmp x y) ≡ true → x ≡ y
+same_key_from_eq x y p q e = same_key x y p q (is_equal (key_cmp x y) e)

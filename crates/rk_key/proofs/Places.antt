@@ -1,5 +1,5 @@
 -- How far bytes begin a key or a suffix.
-use Rattle.std.proofs.Common.{zero, ◌*◌, Bool, true, false, ◌≡◌, ℕ, ◌+◌, ◌-◌, ◌<◌, ◌≤◌, ◌≢◌, lit≤, lit<, ◌^◌, suc, List, [], ◌∷◌, ◌++◌, length, take, drop, get_or, refl, ap, sym, subst, ◌∙◌, arith, length-append}
+use Rattle.std.proofs.Common.{zero, ◌*◌, Bool, true, false, ◌≡◌, ℕ, ◌+◌, ◌-◌, ◌<◌, ◌≤◌, lit≤, lit<, ◌^◌, suc, List, [], ◌∷◌, ◌++◌, length, take, drop, get_or, refl, ap, sym, subst, ◌∙◌, arith, length-append}
 use Rattle.std.specs.Prelude.{All, if◌then◌else◌, ◌==◌}
 use Rattle.std.proofs.Math.Seq.{take-append-add}
 use Rattle.std.proofs.lemmas.List.{append_assoc, append-nil, get_or-take, length-take-le, take_at, take-take, take-append-drop, take_all}
@@ -53,16 +53,6 @@ module _ (Is : List ℕ → Type 0) where
 
 -- suffixes
 
-no_suffix : (b : ℕ) (bs : List ℕ) → b ≢ at_sign → ¬ IsSuffix (b ∷ bs)
-no_suffix b [] other is = is
-no_suffix b (c ∷ cs) other is = other is.0
-
--- another first byte than `@`
-pub bad_at_sign : (bytes : List ℕ) → 1 ≤ length bytes → get_or bytes 0 0 ≢ at_sign → IsBadAt IsSuffix bytes 0
-bad_at_sign [] some other = absurd (omega arith)
-bad_at_sign (b ∷ bs) some other =
-    bad_before IsSuffix (b ∷ bs) 0 (omega arith) ([], tt) (λ begun. no_suffix b begun.0 other begun.1)
-
 digit_one : IsNumber 49 []
 digit_one = record { all_digits = λ k d h. absurd (omega arith); no_zero = (lit≤ tt, lit≤ tt); fits = lit< tt }
 
@@ -102,9 +92,6 @@ decimal_front xs ys decimal =
       all_digits = subst (All IsDigit) (take_at xs ys (length xs) refl) (All-take IsDigit (length xs) (xs ++ ys) decimal.all_digits);
       fits = omega (arith, decimal.fits, decimal-le-append xs ys);
     }
-
-pub decimal_none : (bytes : List ℕ) → IsDecimal (take 0 bytes)
-decimal_none bytes = record { all_digits = All-nil IsDigit; fits = lit< tt }
 
 -- one more byte that is a digit, and with which the number fits
 pub decimal_longer : (bytes : List ℕ) (at : ℕ) → at < length bytes → IsDecimal (take at bytes)

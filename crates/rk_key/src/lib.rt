@@ -15,3 +15,6 @@ pub use error::{KeyError, Which};
 pub use key::{UserKey, read_key};
 pub use order::{compare, split};
 pub use suffix::{Suffix, read_suffix};
+
+#[cfg(test)]
+mod tests;
