@@ -24,7 +24,7 @@ positions_are es o =
     (λ i. put_in (shown_points es o es) (sorted_keys (starts_among es o (keys_of es (written_ends es o) i))))
     ∙ sym (sorted_keys-append (shown_points es o es) (starts_among es o (written_ends es o)))
 
-filter-append : {A : Type 0} (p : A → Bool) (xs ys : List A) → filter p (xs ++ ys) ≡ filter p xs ++ filter p ys
+pub filter-append : {A : Type 0} (p : A → Bool) (xs ys : List A) → filter p (xs ++ ys) ≡ filter p xs ++ filter p ys
 filter-append p [] ys = refl
 filter-append p (x ∷ xs) ys =
     elim (p x) as (λ b. cond b (x ∷ filter p (xs ++ ys)) (filter p (xs ++ ys)) ≡ cond b (x ∷ filter p xs) (filter p xs) ++ filter p ys) [

@@ -8,7 +8,7 @@ use Rattle.rk_model.specs.Covers.{cover}
 use Rattle.rk_model.specs.Lists.{first_of, none_of}
 use Rattle.rk_model.specs.Spans.{in_bounds, below, same_cover, insert_key, written_ends, WidestSpan}
 use Rattle.rk_model.specs.Positions.{positions, shown, put_key, begins_span}
-use Rattle.rk_model.specs.Moves.{least, greatest, key_at, span_of, span_changed, View}
+use Rattle.rk_model.specs.Moves.{least, greatest, lowered, key_at, span_of, span_changed, View}
 use Rattle.rk_model.specs.declared.op.Entry.{Entry}
 use Rattle.rk_model.specs.declared.span.SuffixValue.{SuffixValue}
 use Rattle.rk_model.specs.declared.options.IterOptions.{IterOptions}
@@ -60,6 +60,10 @@ prev_in keys Fresh = greatest keys
 prev_in keys Start = Start
 prev_in keys (At x) = greatest (filter (λ p. is_lt (key_cmp p x)) keys)
 prev_in keys End = greatest keys
+
+-- `SeekLt` over the positions, under an upper bound
+abbrev pub below_in : List (List ℕ) → Option (List ℕ) → List ℕ → Cursor
+below_in keys upper k = greatest (filter (λ p. is_lt (key_cmp p (lowered upper k))) keys)
 
 -- the view with its cursor moved
 abbrev pub at_cursor : View → Cursor → View

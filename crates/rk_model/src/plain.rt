@@ -3,7 +3,7 @@ ghost use Rattle.std.specs.Prelude.{◌≡◌, [], is_some, IfOk, OnErr, MatchOp
 ghost use Rattle.std.specs.Option.{option_copied};
 ghost use Rattle.rk_model.specs.Spans.{widest_span};
 ghost use Rattle.rk_model.specs.Positions.{shown};
-ghost use Rattle.rk_model.specs.Moves.{First, Next, moved, key_at, span_of, span_changed, same_span, opened_over, after_move, reported_value, reported_span, reported_cover};
+ghost use Rattle.rk_model.specs.Moves.{First, Last, Next, Prev, SeekGe, SeekLt, key_at, span_of, span_changed, same_span, opened_over, after_move, reported_value, reported_span, reported_cover};
 ghost use Rattle.rk_model.specs.Plain.{covered_ends, at_cursor, value_of};
 
 mod cover;
@@ -168,6 +168,69 @@ impl Plain {
         ensures unmoved { OnErr result (self.new ≡ self.old) }
     {
         let cursor = moves::next(&self.positions, &self.cursor)?;
+        self.go_to(cursor)
+    }
+
+    /// Moves to the last position, or to the start. The answer is whether there is one.
+    ///
+    /// # Errors
+    ///
+    /// `NoMemory` where the cursor or its report finds no memory. It stays as it was.
+    pub fn last(&mut self) -> Result<bool, NoMemory>
+        ensures moved { IfOk result (λ there. self.new ≡ after_move self.old Last) }
+        ensures answer { IfOk result (λ there. there ≡ is_some (key_at self.new.cursor)) }
+        ensures unmoved { OnErr result (self.new ≡ self.old) }
+    {
+        let cursor = moves::greatest(&self.positions)?;
+        self.go_to(cursor)
+    }
+
+    /// Moves to the position before, or to the start.
+    ///
+    /// # Errors
+    ///
+    /// `NoMemory` where the cursor or its report finds no memory. It stays as it was.
+    pub fn prev(&mut self) -> Result<bool, NoMemory>
+        ensures moved { IfOk result (λ there. self.new ≡ after_move self.old Prev) }
+        ensures answer { IfOk result (λ there. there ≡ is_some (key_at self.new.cursor)) }
+        ensures unmoved { OnErr result (self.new ≡ self.old) }
+    {
+        let cursor = moves::prev(&self.positions, &self.cursor)?;
+        self.go_to(cursor)
+    }
+
+    /// Moves to the key where a span is over it, and else to the first position not below it, or to the end.
+    /// A key below the lower bound is raised to it.
+    ///
+    /// # Errors
+    ///
+    /// `NoMemory` where the cursor or its report finds no memory. It stays as it was.
+    pub fn seek_ge(&mut self, key: &UserKey) -> Result<bool, NoMemory>
+        ensures moved { IfOk result (λ there. self.new ≡ after_move self.old (SeekGe key.now)) }
+        ensures answer { IfOk result (λ there. there ≡ is_some (key_at self.new.cursor)) }
+        ensures unmoved { OnErr result (self.new ≡ self.old) }
+    {
+        let cursor = moves::sought(
+            self.alloc,
+            &self.entries,
+            &self.options,
+            &self.positions,
+            key,
+        )?;
+        self.go_to(cursor)
+    }
+
+    /// Moves to the last position below the key, or to the start.
+    ///
+    /// # Errors
+    ///
+    /// `NoMemory` where the cursor or its report finds no memory. It stays as it was.
+    pub fn seek_lt(&mut self, key: &UserKey) -> Result<bool, NoMemory>
+        ensures moved { IfOk result (λ there. self.new ≡ after_move self.old (SeekLt key.now)) }
+        ensures answer { IfOk result (λ there. there ≡ is_some (key_at self.new.cursor)) }
+        ensures unmoved { OnErr result (self.new ≡ self.old) }
+    {
+        let cursor = moves::sought_below(&self.positions, &self.options.upper, key)?;
         self.go_to(cursor)
     }
 

@@ -127,7 +127,8 @@ fn span_end<'a>(
     })
 }
 
-fn has_no_pairs(pairs: &[SuffixValue]) -> bool
+/// Whether a list of pairs is empty.
+pub(crate) fn has_no_pairs(pairs: &[SuffixValue]) -> bool
     ensures { result ≡ none_of pairs.now }
 {
     pairs.is_empty()
