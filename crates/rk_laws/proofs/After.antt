@@ -1,9 +1,9 @@
 -- The cover and the point after one more entry.
-use Rattle.std.proofs.Common.{◌≡◌, ℕ, ◌<◌, ◌≤◌, Bool, true, false, not, ◌&&◌, ◌||◌, cond, List, [], ◌∷◌, ◌++◌, filter, Option, Some, None, refl, ap, sym, ◌∙◌, arith, rules, nat_lt}
+use Rattle.std.proofs.Common.{◌≡◌, ℕ, ◌<◌, Bool, true, false, not, ◌&&◌, ◌||◌, cond, List, [], ◌∷◌, ◌++◌, filter, Some, None, refl, ap, sym, ◌∙◌, arith, nat_lt}
 use Rattle.std.specs.Ordering.{is_eq}
 use Rattle.std.specs.Option.{option_and_then}
 use Rattle.rk_model.specs.Lists.{first_of}
-use Rattle.std.specs.List.{All, AllByRecursion, list_any, filter_map}
+use Rattle.std.specs.List.{AllByRecursion, list_any, filter_map}
 use Rattle.std.proofs.lemmas.Bool.{lt-ltb, le-ltb, not-true}
 use Rattle.std.proofs.lemmas.Cmp.{eq_by_cmp_equiv}
 use Rattle.std.proofs.lemmas.List.{append-nil}
@@ -16,8 +16,8 @@ use Rattle.rk_model.specs.declared.op.Op.{Op}
 use Rattle.rk_model.specs.declared.op.Op.TheVariants.{Put, Del, RangeSet, RangeUnset, RangeDel}
 use Rattle.rk_model.specs.declared.op.Entry.{Entry}
 use Rattle.rk_model.specs.declared.span.SuffixValue.{SuffixValue}
-use Rattle.rk_laws.specs.Newer.{NumberedBelow, without, with_entry, with_point, CoverAfterEntry, PointAfterEntry}
-use Rattle.rk_laws.proofs.Lists.{all_filter, all_pass, all_weaker, filter_none, filter_all, any_none, kept_if, filter_map_kept, or_true}
+use Rattle.rk_laws.specs.Newer.{with_entry, with_point, CoverAfterEntry, PointAfterEntry}
+use Rattle.rk_laws.proofs.Lists.{all_filter, all_pass, all_weaker, filter_none, any_none, kept_if, filter_map_kept, or_true}
 use Rattle.rk_laws.proofs.Order.{suffix_total}
 use Rattle.rk_laws.proofs.Pairs.{alike, by_suffix_last, by_suffix_filter}
 use Rattle.rk_laws.proofs.Plain.{cover_of, value_of}

@@ -1,16 +1,15 @@
 -- Two lists of entries with the same covers within the bounds have the same widest spans there.
-use Rattle.std.proofs.Common.{◌≡◌, ◌≢◌, ℕ, Bool, true, false, not, ◌&&◌, ◌||◌, cond, List, [], ◌∷◌, ◌++◌, filter, Option, Some, None, IfSome, refl, ap, sym, ◌∙◌, ◌⊎◌, inl, inr, subst, arith, rules, flat_map, if◌then◌else◌}
-use Rattle.std.specs.declared.cmp.Ordering.TheVariants.{Less, Equal, Greater}
+use Rattle.std.proofs.Common.{◌≡◌, ◌≢◌, ℕ, Bool, true, false, not, ◌&&◌, List, [], ◌∷◌, Option, Some, None, IfSome, refl, ap, sym, ◌∙◌, ◌⊎◌, inl, inr, subst}
+use Rattle.std.specs.declared.cmp.Ordering.TheVariants.{Equal}
 use Rattle.std.specs.Ordering.{is_lt, is_eq}
 use Rattle.std.specs.Option.{option_map_or}
-use Rattle.std.specs.List.{All, AllByRecursion}
-use Rattle.std.proofs.lemmas.Bool.{and_parts, and_from, not-true, not-false}
+use Rattle.std.specs.List.{All}
+use Rattle.std.proofs.lemmas.Bool.{and_parts, and_from, not-true}
 use Rattle.std.proofs.lemmas.Cmp.{alike_right, tied_back}
 use Rattle.std.proofs.lemmas.List.Elements.{recursion_from_All}
 use Rattle.rk_key.specs.Keys.{IsKey, key_cmp}
 use Rattle.rk_key.proofs.Equality.{same_key}
 use Rattle.rk_model.specs.Covers.{cover}
-use Rattle.rk_model.specs.Lists.{none_of}
 use Rattle.rk_model.specs.Spans.{at_or_above, below, in_bounds, op_ends, written_ends, sorted_keys, same_cover, WidestSpan, widest_span}
 use Rattle.rk_model.specs.Positions.{begins_span}
 use Rattle.rk_model.specs.declared.op.Op.{Op}
@@ -20,11 +19,11 @@ use Rattle.rk_model.specs.declared.span.SuffixValue.{SuffixValue}
 use Rattle.rk_model.specs.declared.options.IterOptions.{IterOptions}
 use Rattle.rk_laws.specs.SameCells.{op_keys, WellFormed, KeyBounds, SameCovers, GiveSameCovers, SpansOfCovers, SpanStartsOfCovers}
 use Rattle.rk_laws.proofs.Members.{Among, among_all, among_filter, filter_among, flat_map_among, same_ascending}
-use Rattle.rk_laws.proofs.Order.{key_total, lt_itself, lt_back, lt_trans, ge_trans, lt_ge, ge_lt, eq_is, eq_from}
+use Rattle.rk_laws.proofs.Order.{key_total, lt_trans, ge_trans, eq_is, eq_from}
 use Rattle.rk_laws.proofs.Ends.{lt, Like, IsEnd, lower, upper, inner, is_end, end_is, Floor, none, some, floor, sorted_among, among_sorted, sorted_ascends}
-use Rattle.rk_laws.proofs.Plain.{all_ends, cover_alike}
+use Rattle.rk_laws.proofs.Plain.{cover_alike}
 use Rattle.rk_laws.proofs.Cuts.{cover_at_floor, cover_below_ends, at_or_above_from}
-use Rattle.rk_laws.proofs.Widest.{IsStart, IsStop, IsSpan, span_is, span_there, one_up_to, same_cover_from, back, self}
+use Rattle.rk_laws.proofs.Widest.{IsStart, IsStop, span_is, span_there, one_up_to, same_cover_from, back, self}
 use Rattle.rk_laws.proofs.Places.{span_ends}
 
 -- the written ends are keys

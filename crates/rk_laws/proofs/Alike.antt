@@ -1,15 +1,12 @@
 -- Lists with the same entries over a key.
-use Rattle.std.proofs.Common.{◌≡◌, ◌≢◌, ◌↔◌, ℕ, ◌<◌, ◌≤◌, Bool, true, false, not, ◌&&◌, ◌||◌, cond, List, [], ◌∷◌, ◌++◌, map, filter, Option, Some, None, Contains, IsPermutation, refl, ap, sym, ◌∙◌, ◌⊎◌, inl, inr, subst, arith, rules, nat_lt, nat_le, option_and_then}
-use Rattle.std.specs.Ordering.{is_lt, is_eq}
-use Rattle.std.specs.List.{AllPairs, AllByRecursion, list_any, filter_map, cons_option}
+use Rattle.std.proofs.Common.{◌≡◌, ◌≢◌, ℕ, ◌<◌, ◌≤◌, Bool, true, false, not, ◌&&◌, cond, List, [], ◌∷◌, map, filter, Option, Some, None, IsPermutation, refl, ap, sym, ◌∙◌, ◌⊎◌, inl, inr, subst, arith, nat_lt, option_and_then}
+use Rattle.std.specs.List.{AllByRecursion, list_any, filter_map, cons_option}
 use Rattle.std.proofs.lemmas.Cmp.{eq_by_cmp_equiv}
-use Rattle.std.proofs.lemmas.Bool.{lt-ltb, ltb-true, ltb-false, cases_order, and_parts, and_from, not-true, not-false}
+use Rattle.std.proofs.lemmas.Bool.{lt-ltb, ltb-false, cases_order, and_parts, and_from, not-true}
 use Rattle.std.proofs.lemmas.List.Kept.{AllPairs-filter}
 use Rattle.std.proofs.lemmas.List.Sorted.{Contains-permutation, IsPermutation-sym}
-use Rattle.rk_key.specs.Keys.{suffix_cmp}
-use Rattle.rk_model.specs.Lists.{first_of}
 use Rattle.rk_model.specs.Operations.{is_over}
-use Rattle.rk_model.specs.Covers.{over, is_point, standing, ends_set, insert_pair, by_suffix, newest, put_value, point, cover}
+use Rattle.rk_model.specs.Covers.{over, is_point, standing, ends_set, insert_pair, by_suffix, newest, put_value, point}
 use Rattle.rk_model.specs.declared.op.Op.{Op}
 use Rattle.rk_model.specs.declared.op.Op.TheVariants.{Put, Del, RangeSet, RangeUnset, RangeDel}
 use Rattle.rk_model.specs.declared.op.Entry.{Entry}
@@ -18,9 +15,9 @@ use Rattle.rk_laws.specs.Prefixes.{spans_over, points_on}
 use Rattle.rk_laws.specs.KeptCells.{NumbersDiffer}
 use Rattle.rk_laws.specs.SameEntries.{without_ends, effects_over, SameElements, CoverOfEffects, PointOfElements, CellsInAnyOrder}
 use Rattle.rk_laws.proofs.Members.{Among, Ascending, among_all, all_among, among_filter, filter_among, among_map, map_among, among_contained, contains_among, any_from, any_gives, any_false, among_filter_map, filter_map_among, first_among, first_is, same_ascending, none_any}
-use Rattle.rk_laws.proofs.Order.{suffix_total, lt_itself, lt_back, lt_trans, eq_is, apart}
+use Rattle.rk_laws.proofs.Order.{suffix_total, lt_itself, lt_back, lt_trans, apart}
 use Rattle.rk_laws.proofs.Pairs.{less, alike}
-use Rattle.rk_laws.proofs.Plain.{cover_of, value_of, is_span}
+use Rattle.rk_laws.proofs.Plain.{cover_of, is_span}
 use Rattle.rk_laws.proofs.Stripes.{pairs_head, pairs_tail, same_number}
 use Rattle.rk_laws.proofs.Dropped.{ends_after}
 

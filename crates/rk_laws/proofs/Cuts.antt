@@ -1,21 +1,19 @@
 -- Covers change at written ends alone.
-use Rattle.std.proofs.Common.{◌≡◌, ℕ, Bool, true, false, not, ◌&&◌, ◌||◌, cond, List, [], ◌∷◌, ◌++◌, filter, Option, Some, None, refl, ap, sym, ◌∙◌, ◌⊎◌, inl, inr, subst, arith, rules, Ordering, flat_map}
-use Rattle.std.specs.declared.cmp.Ordering.TheVariants.{Less, Equal, Greater}
-use Rattle.std.specs.Ordering.{is_lt, is_eq}
-use Rattle.std.proofs.lemmas.Bool.{and_parts, not-true, not_from_true}
-use Rattle.std.proofs.lemmas.Cmp.{alike_right, tied_itself, tied_back}
-use Rattle.rk_key.specs.Keys.{key_cmp}
+use Rattle.std.proofs.Common.{◌≡◌, ℕ, Bool, true, false, not, ◌&&◌, List, [], Option, Some, None, refl, ap, sym, ◌∙◌, inl, inr}
+use Rattle.std.specs.Ordering.{is_lt}
+use Rattle.std.proofs.lemmas.Bool.{and_parts, not-true}
+use Rattle.std.proofs.lemmas.Cmp.{alike_right}
 use Rattle.rk_model.specs.Operations.{within, is_over}
-use Rattle.rk_model.specs.Covers.{over, is_point, cover}
+use Rattle.rk_model.specs.Covers.{is_point, cover}
 use Rattle.rk_model.specs.Spans.{at_or_above, above, below, in_bounds, op_ends, written_ends}
 use Rattle.rk_model.specs.declared.op.Op.{Op}
 use Rattle.rk_model.specs.declared.op.Op.TheVariants.{Put, Del, RangeSet, RangeUnset, RangeDel}
 use Rattle.rk_model.specs.declared.op.Entry.{Entry}
 use Rattle.rk_model.specs.declared.options.IterOptions.{IterOptions}
 use Rattle.rk_laws.proofs.Members.{Among, among_flat_map}
-use Rattle.rk_laws.proofs.Order.{key_total, lt_itself, lt_back, lt_trans, ge_trans, lt_ge, ge_lt, eq_is, eq_from, apart}
-use Rattle.rk_laws.proofs.Ends.{lt, Like, IsEnd, lower, upper, inner, is_end, end_is, Floor, none, some, floor}
-use Rattle.rk_laws.proofs.Plain.{all_ends, is_span, cover_agrees, cover_alike, cover_none}
+use Rattle.rk_laws.proofs.Order.{key_total, lt_itself, lt_back, lt_trans, ge_trans, ge_lt}
+use Rattle.rk_laws.proofs.Ends.{lt, Like, IsEnd, lower, upper, inner, is_end, end_is}
+use Rattle.rk_laws.proofs.Plain.{all_ends, is_span, cover_agrees, cover_none}
 
 -- between a key at or above the lower bound and one above it
 pub above_from : (b : Option (List ℕ)) (y k : List ℕ) → at_or_above b y ≡ true → lt y k ≡ true → above b k ≡ true

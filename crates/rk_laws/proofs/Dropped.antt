@@ -1,18 +1,15 @@
 -- Entries that may be dropped from among others over a key.
-use Rattle.std.proofs.Common.{◌≡◌, ◌≢◌, ℕ, ◌<◌, ◌≤◌, Bool, true, false, not, ◌&&◌, ◌||◌, cond, List, [], ◌∷◌, ◌++◌, filter, Option, Some, None, refl, ap, sym, ◌∙◌, ◌⊎◌, inl, inr, subst, arith, rules, nat_lt, nat_le, option_and_then}
-use Rattle.std.specs.Ordering.{is_eq}
+use Rattle.std.proofs.Common.{◌≡◌, ℕ, ◌<◌, ◌≤◌, Bool, true, false, ◌&&◌, cond, List, [], ◌∷◌, ◌++◌, filter, Option, Some, None, refl, ap, sym, ◌∙◌, ◌⊎◌, inl, inr, arith, nat_lt}
 use Rattle.std.specs.List.{list_any, filter_map, cons_option}
-use Rattle.std.proofs.lemmas.Bool.{lt-ltb, le-ltb, ltb-true, ltb-false, and_parts, and_from, true_from_ne_false, false_from_ne_true, not-true}
+use Rattle.std.proofs.lemmas.Bool.{ltb-true, ltb-false}
 use Rattle.std.proofs.lemmas.List.Elements.{filter-append, filter_map-append}
-use Rattle.rk_key.specs.Keys.{suffix_cmp}
-use Rattle.rk_model.specs.Lists.{first_of}
-use Rattle.rk_model.specs.Covers.{is_point, standing, ends_set, by_suffix, newest, put_value}
+use Rattle.rk_model.specs.Covers.{standing, ends_set, by_suffix}
 use Rattle.rk_model.specs.declared.op.Op.{Op}
 use Rattle.rk_model.specs.declared.op.Op.TheVariants.{Put, Del, RangeSet, RangeUnset, RangeDel}
 use Rattle.rk_model.specs.declared.op.Entry.{Entry}
 use Rattle.rk_model.specs.declared.span.SuffixValue.{SuffixValue}
-use Rattle.rk_laws.proofs.Members.{Among, among_append, among_left, among_right, among_filter, filter_among, any_from, any_gives, any_false, none_any}
-use Rattle.rk_laws.proofs.Plain.{cover_of, value_of}
+use Rattle.rk_laws.proofs.Members.{Among, among_append, among_left, among_right, among_filter, filter_among, any_gives, any_false}
+use Rattle.rk_laws.proofs.Plain.{cover_of}
 
 -- of the entries that pass a test, one with the greatest number, or that none passes
 pub data Latest (t : Entry → Bool) (l : List Entry) : Type 0 where

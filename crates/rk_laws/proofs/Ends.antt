@@ -1,16 +1,15 @@
 -- Sorted keys and the written ends.
-use Rattle.std.proofs.Common.{◌≡◌, ℕ, Bool, true, false, not, ◌&&◌, ◌||◌, cond, List, [], ◌∷◌, ◌++◌, filter, Option, Some, None, refl, ap, sym, ◌∙◌, ◌⊎◌, inl, inr, subst, arith, rules, Ordering, option_to_list, flat_map}
-use Rattle.std.specs.declared.cmp.Ordering.TheVariants.{Less, Equal, Greater}
+use Rattle.std.proofs.Common.{◌≡◌, ℕ, Bool, true, false, ◌&&◌, cond, List, [], ◌∷◌, ◌++◌, filter, Option, Some, None, refl, ap, sym, ◌⊎◌, inl, inr, subst, option_to_list, flat_map}
+use Rattle.std.specs.declared.cmp.Ordering.TheVariants.{Equal}
 use Rattle.std.specs.Ordering.{is_lt, is_eq}
-use Rattle.std.specs.List.{AllByRecursion}
 use Rattle.std.proofs.lemmas.Bool.{and_parts}
-use Rattle.std.proofs.lemmas.Cmp.{alike_right, tied_itself, tied_back}
+use Rattle.std.proofs.lemmas.Cmp.{tied_itself}
 use Rattle.rk_key.specs.Keys.{key_cmp}
-use Rattle.rk_model.specs.Spans.{at_or_above, above, below, in_bounds, op_ends, insert_key, sorted_keys, written_ends}
+use Rattle.rk_model.specs.Spans.{above, below, op_ends, insert_key, sorted_keys, written_ends}
 use Rattle.rk_model.specs.declared.op.Entry.{Entry}
 use Rattle.rk_model.specs.declared.options.IterOptions.{IterOptions}
 use Rattle.rk_laws.proofs.Members.{Among, Ascending, among_all, all_among, among_left, among_right, among_append, among_filter, filter_among}
-use Rattle.rk_laws.proofs.Order.{key_total, lt_itself, lt_back, lt_trans, ge_trans, lt_ge, ge_lt, eq_is, eq_from, apart}
+use Rattle.rk_laws.proofs.Order.{key_total, lt_itself, lt_back, lt_trans, ge_trans, eq_is, apart}
 
 abbrev pub lt : List ℕ → List ℕ → Bool
 lt x y = is_lt (key_cmp x y)

@@ -1,22 +1,21 @@
 -- The laws of kept entries.
-use Rattle.std.proofs.Common.{◌≡◌, ◌≢◌, ℕ, ◌<◌, ◌≤◌, Bool, true, false, not, ◌&&◌, ◌||◌, cond, List, [], ◌∷◌, ◌++◌, filter, Option, Some, None, Contains, refl, ap, sym, ◌∙◌, ◌⊎◌, inl, inr, subst, arith, rules, nat_lt, nat_le, option_and_then}
-use Rattle.std.specs.List.{All, AllPairs, AllByRecursion, list_any}
-use Rattle.std.specs.List.Sorted.{IsStrictlyIncreasing}
-use Rattle.std.proofs.lemmas.Bool.{lt-ltb, le-ltb, ltb-true, ltb-false, leb-true, le-leb, cases_order, and_parts, and_from, not-true, not-false}
+use Rattle.std.proofs.Common.{◌≡◌, ℕ, ◌<◌, ◌≤◌, Bool, true, false, not, ◌&&◌, List, [], ◌++◌, filter, Option, Some, None, refl, ap, sym, ◌∙◌, ◌⊎◌, inl, inr, subst, arith, nat_lt, nat_le, option_and_then}
+use Rattle.std.specs.List.{All, list_any}
+use Rattle.std.proofs.lemmas.Bool.{lt-ltb, ltb-true, cases_order, and_parts, not-true}
 use Rattle.std.proofs.lemmas.List.Elements.{filter-append, recursion_from_All}
 use Rattle.rk_model.specs.Lists.{first_of}
 use Rattle.rk_model.specs.Operations.{is_over}
-use Rattle.rk_model.specs.Covers.{upto, over, is_point, newest, put_value, ends_set, point, cover}
-use Rattle.rk_model.specs.Kept.{cells, same_stripe, in_lowest, shadows, is_set, kept}
+use Rattle.rk_model.specs.Covers.{upto, over, is_point, newest, put_value, ends_set}
+use Rattle.rk_model.specs.Kept.{cells, in_lowest, shadows, is_set}
 use Rattle.rk_model.specs.declared.op.Op.{Op}
 use Rattle.rk_model.specs.declared.op.Op.TheVariants.{Put, Del, RangeSet, RangeUnset, RangeDel}
 use Rattle.rk_model.specs.declared.op.Entry.{Entry}
 use Rattle.rk_model.specs.declared.span.SuffixValue.{SuffixValue}
 use Rattle.rk_laws.specs.KeptCells.{KeptGivesCells, NumbersDiffer, Newer, KeptAtBottomGivesCells}
 use Rattle.rk_laws.proofs.Lists.{filter_twice, filter_swap, filter_none}
-use Rattle.rk_laws.proofs.Members.{Among, among_contained, Ascending, among_all, all_among, among_append, among_left, among_right, among_filter, filter_among, first_among, any_from, any_gives, any_false, none_any}
+use Rattle.rk_laws.proofs.Members.{Among, among_contained, Ascending, among_all, all_among, among_append, among_left, among_right, filter_among, first_among, any_from, any_false}
 use Rattle.rk_laws.proofs.Plain.{cover_of, value_of}
-use Rattle.rk_laws.proofs.Stripes.{pairs_head, pairs_tail, same_number, stripes_ascend, together, lowest_below}
+use Rattle.rk_laws.proofs.Stripes.{same_number, stripes_ascend, lowest_below}
 use Rattle.rk_laws.proofs.Dropped.{Latest, none, some, latest, ends_after, SetsUnder, whole, less, less_within, less_or_dropped}
 use Rattle.rk_laws.proofs.Stays.{keeps, newest_in, newer_point, newest_of, stays, points_stay, ender_shadows, not_kept, point_shadows, why_dropped, Why, shadowed, lowest, shadow_seen, shadow_points}
 

@@ -13,5 +13,6 @@ pub mod Dropped
 pub mod Stays
 pub mod Keeping
 pub mod Alike
+pub mod Unmasked
 pub mod Pairs
 pub mod After

@@ -1,6 +1,6 @@
 -- Lemmas on filters and tests of lists.
-use Rattle.std.proofs.Common.{◌≡◌, ℕ, Bool, true, false, not, ◌&&◌, ◌||◌, cond, List, [], ◌∷◌, ◌++◌, filter, Option, Some, None, refl, ap, sym, ◌∙◌, arith, rules}
-use Rattle.std.specs.List.{AllByRecursion, list_any, list_all, filter_map, cons_option}
+use Rattle.std.proofs.Common.{◌≡◌, Bool, true, false, ◌||◌, cond, List, [], ◌∷◌, filter, Option, Some, None, refl, ap}
+use Rattle.std.specs.List.{AllByRecursion, list_any, filter_map, cons_option}
 
 -- a test that passes none of what a filter drops
 pub any_filter : {X : Type 0} (p q : X → Bool) → ((x : X) → q x ≡ false → p x ≡ false) → (xs : List X) → list_any p (filter q xs) ≡ list_any p xs

@@ -1,5 +1,5 @@
 -- What is among the elements of a list, and lists that rise strictly.
-use Rattle.std.proofs.Common.{◌≡◌, ℕ, zero, suc, ◌<◌, length, get_or, map, Contains, Bool, true, false, not, ◌&&◌, ◌||◌, cond, List, [], ◌∷◌, ◌++◌, filter, Option, Some, None, refl, ap, sym, ◌∙◌, ◌⊎◌, inl, inr, subst, arith, rules}
+use Rattle.std.proofs.Common.{◌≡◌, zero, suc, map, Contains, Bool, true, false, ◌&&◌, ◌||◌, cond, List, [], ◌∷◌, ◌++◌, filter, Option, Some, None, refl, ap, sym, ◌∙◌, ◌⊎◌, inl, inr, subst, arith}
 use Rattle.std.specs.List.{AllByRecursion, list_any, list_all, flat_map, filter_map, cons_option}
 use Rattle.rk_model.specs.Lists.{first_of}
 

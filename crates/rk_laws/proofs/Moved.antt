@@ -1,18 +1,18 @@
 -- Two lists of entries with the same covers and points within the bounds give the same positions and moves.
-use Rattle.std.proofs.Common.{◌≡◌, ◌≢◌, ℕ, Bool, true, false, not, ◌&&◌, ◌||◌, cond, List, [], ◌∷◌, ◌++◌, filter, Option, Some, None, is_some, IfSome, refl, ap, sym, ◌∙◌, ◌⊎◌, inl, inr, subst, arith, rules, flat_map, option_and_then, nat_lt, if◌then◌else◌}
-use Rattle.std.specs.declared.cmp.Ordering.TheVariants.{Less, Equal, Greater}
-use Rattle.std.specs.Ordering.{is_lt, is_eq}
+use Rattle.std.proofs.Common.{◌≡◌, ℕ, Bool, true, false, not, ◌&&◌, List, ◌++◌, filter, Option, Some, None, is_some, IfSome, refl, ap, sym, ◌∙◌, ◌⊎◌, inl, inr, subst, flat_map, option_and_then, nat_lt, if◌then◌else◌}
+use Rattle.std.specs.declared.cmp.Ordering.TheVariants.{Equal}
+use Rattle.std.specs.Ordering.{is_lt}
 use Rattle.std.specs.Option.{option_map_or}
-use Rattle.std.specs.List.{All, AllByRecursion, list_any}
-use Rattle.std.proofs.lemmas.Bool.{and_parts, and_from, not-true, not-false}
+use Rattle.std.specs.List.{list_any}
+use Rattle.std.proofs.lemmas.Bool.{and_parts, and_from}
 use Rattle.rk_key.specs.Keys.{IsKey, suffix, key_cmp}
 use Rattle.rk_key.proofs.Equality.{same_key}
 use Rattle.rk_model.specs.Operations.{is_over}
 use Rattle.rk_model.specs.Covers.{over, is_point, newest, put_value, point, cover}
-use Rattle.rk_model.specs.Lists.{first_of, last_of, none_of}
-use Rattle.rk_model.specs.Spans.{in_bounds, written_ends, sorted_keys, same_bytes, same_cover, WidestSpan, widest_span}
-use Rattle.rk_model.specs.Positions.{hides, is_masked, shown, put_key, begins_span, positions, Report, report}
-use Rattle.rk_model.specs.Moves.{Move, First, Last, Next, Prev, SeekGe, SeekLt, at_or, least, greatest, raised, lowered, sought, moved, key_at, span_of, same_span, span_changed}
+use Rattle.rk_model.specs.Lists.{none_of}
+use Rattle.rk_model.specs.Spans.{in_bounds, WidestSpan, widest_span}
+use Rattle.rk_model.specs.Positions.{hides, is_masked, shown, put_key, positions, Report}
+use Rattle.rk_model.specs.Moves.{Move, First, Last, Next, Prev, SeekGe, SeekLt, least, greatest, raised, lowered, sought, moved, span_of, same_span}
 use Rattle.rk_model.specs.declared.op.Op.{Op}
 use Rattle.rk_model.specs.declared.op.Op.TheVariants.{Put, Del, RangeSet, RangeUnset, RangeDel}
 use Rattle.rk_model.specs.declared.op.Entry.{Entry}
@@ -20,12 +20,12 @@ use Rattle.rk_model.specs.declared.span.SuffixValue.{SuffixValue}
 use Rattle.rk_model.specs.declared.options.IterOptions.{IterOptions}
 use Rattle.rk_model.specs.declared.cursor.Cursor.{Cursor}
 use Rattle.rk_model.specs.declared.cursor.Cursor.TheVariants.{Fresh, Start, At, End}
-use Rattle.rk_laws.specs.SameCells.{op_keys, WellFormed, KeyBounds, SameCovers, SamePoints, GiveSameCovers, GiveSameCells, PositionsOfCells, ReportsOfCells, SeeksKey, MovesOfCells, AtKeyWithin, MovesToKeys, ChangesOfCovers}
+use Rattle.rk_laws.specs.SameCells.{op_keys, WellFormed, KeyBounds, GiveSameCovers, GiveSameCells, PositionsOfCells, ReportsOfCells, SeeksKey, MovesOfCells, AtKeyWithin, MovesToKeys, ChangesOfCovers}
 use Rattle.rk_laws.proofs.Members.{Among, among_append, among_left, among_right, among_filter, filter_among, among_flat_map, flat_map_among, first_among}
 use Rattle.rk_laws.proofs.Order.{key_total, eq_is}
 use Rattle.rk_laws.proofs.Ends.{lt, sorted_among}
-use Rattle.rk_laws.proofs.Agree.{key_of_op, key_of_bound, sorted_same, span_ends_shared, span_end_keyed, turned, spans_of_covers}
-use Rattle.rk_laws.proofs.Places.{shown_puts, span_ends, position_inside, least_among, greatest_among, Sought, moved_is, cursor_within_bounds}
+use Rattle.rk_laws.proofs.Agree.{key_of_op, sorted_same, span_ends_shared, span_end_keyed, turned, spans_of_covers}
+use Rattle.rk_laws.proofs.Places.{shown_puts, span_ends, Sought, moved_is, cursor_within_bounds}
 
 -- whether a cover hides a key's point
 abbrev hidden : IterOptions → List ℕ → List SuffixValue → Bool

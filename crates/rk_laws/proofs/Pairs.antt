@@ -1,12 +1,12 @@
 -- Lists of pairs, ascending by suffix.
-use Rattle.std.proofs.Common.{◌≡◌, ℕ, Bool, true, false, not, cond, List, [], ◌∷◌, ◌++◌, filter, Ordering, refl, ap, sym, ◌∙◌, arith, rules}
+use Rattle.std.proofs.Common.{◌≡◌, Bool, true, false, cond, List, [], ◌∷◌, ◌++◌, filter, refl, ap, sym, ◌∙◌}
 use Rattle.std.specs.Ordering.{is_lt, is_eq}
 use Rattle.std.specs.List.{AllByRecursion}
 use Rattle.rk_key.specs.Keys.{suffix_cmp}
 use Rattle.rk_model.specs.Covers.{insert_pair, by_suffix}
 use Rattle.rk_model.specs.declared.span.SuffixValue.{SuffixValue}
 use Rattle.rk_laws.proofs.Lists.{all_filter}
-use Rattle.rk_laws.proofs.Order.{suffix_total, lt_itself, lt_back, lt_trans, ge_trans, lt_ge, ge_lt, apart}
+use Rattle.rk_laws.proofs.Order.{suffix_total, lt_back, lt_trans, ge_trans, lt_ge, apart}
 
 abbrev pub less : SuffixValue → SuffixValue → Bool
 less p q = is_lt (suffix_cmp p.suffix q.suffix)

@@ -1,12 +1,11 @@
 -- Positions, and where moves lead.
-use Rattle.std.proofs.Common.{◌≡◌, ◌≢◌, ℕ, Bool, true, false, not, ◌&&◌, ◌||◌, cond, List, [], ◌∷◌, ◌++◌, filter, Option, Some, None, is_some, refl, ap, sym, ◌∙◌, ◌⊎◌, inl, inr, subst, arith, rules, flat_map, if◌then◌else◌}
-use Rattle.std.specs.Ordering.{is_lt, is_eq}
-use Rattle.std.specs.List.{AllByRecursion}
-use Rattle.std.proofs.lemmas.Bool.{and_parts, and_from, not-true, not-false}
+use Rattle.std.proofs.Common.{◌≡◌, ℕ, Bool, true, false, not, ◌&&◌, List, [], ◌∷◌, ◌++◌, filter, Option, Some, None, is_some, refl, ap, sym, ◌∙◌, ◌⊎◌, inl, inr, flat_map, if◌then◌else◌}
+use Rattle.std.specs.Ordering.{is_lt}
+use Rattle.std.proofs.lemmas.Bool.{and_parts}
 use Rattle.rk_key.specs.Keys.{key_cmp}
 use Rattle.rk_model.specs.Covers.{cover}
 use Rattle.rk_model.specs.Lists.{first_of, last_of, none_of}
-use Rattle.rk_model.specs.Spans.{in_bounds, written_ends, sorted_keys}
+use Rattle.rk_model.specs.Spans.{in_bounds, written_ends}
 use Rattle.rk_model.specs.Positions.{shown, put_key, begins_span, positions}
 use Rattle.rk_model.specs.Moves.{Move, First, Last, Next, Prev, SeekGe, SeekLt, at_or, least, greatest, raised, lowered, sought, moved}
 use Rattle.rk_model.specs.declared.op.Entry.{Entry}

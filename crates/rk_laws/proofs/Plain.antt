@@ -1,19 +1,19 @@
 -- A key and its prefix.
-use Rattle.std.proofs.Common.{◌≡◌, ℕ, Bool, true, false, not, ◌&&◌, ◌||◌, cond, List, [], ◌∷◌, filter, Option, Some, None, refl, ap, sym, ◌∙◌, ◌⊎◌, inl, inr, flat_map, arith, rules, nat_lt}
+use Rattle.std.proofs.Common.{◌≡◌, ℕ, Bool, true, false, not, ◌&&◌, cond, List, [], ◌∷◌, filter, Option, Some, None, refl, ap, sym, ◌∙◌, inl, inr, flat_map, nat_lt}
 use Rattle.std.specs.Ordering.{is_lt}
-use Rattle.std.specs.declared.cmp.Ordering.TheVariants.{Less, Equal, Greater}
+use Rattle.std.specs.declared.cmp.Ordering.TheVariants.{Equal}
 use Rattle.std.specs.Option.{option_and_then}
-use Rattle.std.specs.List.{All, AllByRecursion, list_any, filter_map}
-use Rattle.std.proofs.lemmas.List.Elements.{recursion_from_All, All-head, All-tail}
+use Rattle.std.specs.List.{All, filter_map}
+use Rattle.std.proofs.lemmas.List.Elements.{recursion_from_All}
 use Rattle.rk_key.specs.Keys.{prefix, suffix, key_cmp}
 use Rattle.rk_model.specs.Operations.{within, is_over}
-use Rattle.rk_model.specs.Covers.{over, is_point, point, cover, standing, ends_set, by_suffix, newest, put_value}
+use Rattle.rk_model.specs.Covers.{over, is_point, cover, standing, ends_set, by_suffix, newest, put_value}
 use Rattle.rk_model.specs.Spans.{op_ends}
 use Rattle.rk_model.specs.declared.op.Op.{Op}
 use Rattle.rk_model.specs.declared.op.Op.TheVariants.{Put, Del, RangeSet, RangeUnset, RangeDel}
 use Rattle.rk_model.specs.declared.op.Entry.{Entry}
 use Rattle.rk_model.specs.declared.span.SuffixValue.{SuffixValue}
-use Rattle.rk_laws.specs.Prefixes.{PlainEnds, spans_over, points_on, CoverOfSpans, CoverOfPrefix, SpansOverPrefix, PointOfItsOwn}
+use Rattle.rk_laws.specs.Prefixes.{PlainEnds, spans_over, CoverOfSpans, CoverOfPrefix, SpansOverPrefix, PointOfItsOwn}
 use Rattle.rk_laws.proofs.Members.{Among, among_all, all_among, among_left, among_right, flat_map_among, filter_among}
 use Rattle.rk_laws.proofs.Ends.{lt}
 use Rattle.rk_laws.proofs.Lists.{filter_none, any_filter, filter_map_filter, filter_map_same, filter_twice, filter_swap}

@@ -1,24 +1,19 @@
 -- Kept entries give what all of them give.
-use Rattle.std.proofs.Common.{◌≡◌, ◌≢◌, ℕ, ◌<◌, ◌≤◌, Bool, true, false, not, ◌&&◌, ◌||◌, cond, List, [], ◌∷◌, ◌++◌, filter, Option, Some, None, refl, ap, sym, ◌∙◌, ◌⊎◌, inl, inr, subst, arith, rules, nat_lt, nat_le, option_and_then}
+use Rattle.std.proofs.Common.{◌≡◌, ℕ, ◌<◌, ◌≤◌, Bool, true, false, not, ◌&&◌, ◌||◌, cond, List, [], ◌∷◌, ◌++◌, filter, None, refl, ap, sym, ◌∙◌, ◌⊎◌, inl, inr, arith, nat_lt, nat_le}
 use Rattle.std.specs.Ordering.{is_eq}
-use Rattle.std.specs.Option.{option_map_or}
-use Rattle.std.specs.List.{All, AllPairs, AllByRecursion, list_any}
-use Rattle.std.proofs.lemmas.Bool.{lt-ltb, le-ltb, ltb-true, ltb-false, leb-true, le-leb, and_parts, and_from, and_cases, or_cases, not-true, not-false}
-use Rattle.std.proofs.lemmas.List.Elements.{filter-append, recursion_from_All}
+use Rattle.std.specs.List.{list_any}
+use Rattle.std.proofs.lemmas.Bool.{lt-ltb, ltb-true, leb-true, le-leb, and_parts, and_cases, not-true, not-false}
 use Rattle.rk_key.specs.Keys.{suffix_cmp}
 use Rattle.rk_model.specs.Lists.{first_of}
-use Rattle.rk_model.specs.Operations.{is_over}
-use Rattle.rk_model.specs.Covers.{upto, over, is_point, standing, ends_set, newest, put_value, point, cover}
-use Rattle.rk_model.specs.Kept.{cells, stripe_of, same_stripe, in_lowest, is_range_del, one_suffix, shadows, is_set, kept}
+use Rattle.rk_model.specs.Covers.{upto, is_point, standing, ends_set, newest}
+use Rattle.rk_model.specs.Kept.{same_stripe, in_lowest, shadows, is_set}
 use Rattle.rk_model.specs.declared.op.Op.{Op}
 use Rattle.rk_model.specs.declared.op.Op.TheVariants.{Put, Del, RangeSet, RangeUnset, RangeDel}
 use Rattle.rk_model.specs.declared.op.Entry.{Entry}
-use Rattle.rk_laws.specs.KeptCells.{KeptGivesCells, NumbersDiffer, Newer, KeptAtBottomGivesCells}
-use Rattle.rk_laws.proofs.Lists.{filter_twice, filter_swap, filter_none}
-use Rattle.rk_laws.proofs.Members.{Among, Ascending, among_all, all_among, among_append, among_left, among_right, among_filter, filter_among, first_among, any_from, any_gives, any_false, none_any}
+use Rattle.rk_laws.proofs.Members.{Among, Ascending, among_left, among_right, among_filter, filter_among, any_from, any_gives}
 use Rattle.rk_laws.proofs.Order.{suffix_total, eq_is}
-use Rattle.rk_laws.proofs.Plain.{cover_of, value_of}
-use Rattle.rk_laws.proofs.Stripes.{pairs_head, pairs_tail, stripes_ascend, together, lowest_below}
+use Rattle.rk_laws.proofs.Plain.{cover_of}
+use Rattle.rk_laws.proofs.Stripes.{together}
 use Rattle.rk_laws.proofs.Dropped.{Latest, none, some, latest, any_less, ends_after, SetsUnder, standing_less, whole, less, less_within, less_or_dropped, cover_of_less, filter_less, filter_on}
 
 -- an operation that shadows a set ends it, and what shadows an ender ends the same

@@ -1,12 +1,11 @@
 -- Stripes that rise, and the entries in one stripe.
-use Rattle.std.proofs.Common.{◌≡◌, ◌≢◌, ℕ, zero, suc, ◌+◌, ◌<◌, ◌≤◌, Bool, true, false, not, ◌&&◌, ◌||◌, cond, List, [], ◌∷◌, filter, length, get_or, Option, Some, None, Contains, refl, ap, sym, ◌∙◌, ◌⊎◌, inl, inr, subst, arith, rules, nat_lt, nat_le, eqb}
+use Rattle.std.proofs.Common.{◌≡◌, ◌≢◌, ℕ, suc, ◌<◌, ◌≤◌, true, false, List, [], ◌∷◌, filter, Option, Some, None, refl, ap, sym, ◌∙◌, inl, inr, arith, nat_lt, nat_le, eqb}
 use Rattle.std.specs.Option.{option_map_or}
-use Rattle.std.specs.List.{All, AllPairs, AllByRecursion}
+use Rattle.std.specs.List.{AllPairs, AllByRecursion}
 use Rattle.std.specs.List.Sorted.{IsStrictlyIncreasing}
-use Rattle.std.proofs.lemmas.Bool.{lt-ltb, le-ltb, ltb-true, ltb-false, leb-true, leb-false, le-leb, eqb-true, eq-eqb}
+use Rattle.std.proofs.lemmas.Bool.{lt-ltb, le-ltb, ltb-true, ltb-false, leb-true, le-leb, eqb-true, eq-eqb}
 use Rattle.std.proofs.lemmas.List.Kept.{AllPairs-from_increasing}
 use Rattle.std.proofs.lemmas.List.Elements.{recursion_from_All}
-use Rattle.rk_model.specs.Lists.{first_of}
 use Rattle.rk_model.specs.declared.op.Entry.{Entry}
 use Rattle.rk_laws.specs.KeptCells.{NumbersDiffer}
 use Rattle.rk_model.specs.Kept.{stripe_of, same_stripe, in_lowest}

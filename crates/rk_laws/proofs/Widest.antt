@@ -1,29 +1,23 @@
 -- What the start and the end of a widest span are.
-use Rattle.std.proofs.Common.{◌≡◌, ◌≢◌, ℕ, Bool, true, false, not, ◌&&◌, ◌||◌, cond, List, [], ◌∷◌, ◌++◌, filter, Option, Some, None, refl, ap, sym, ◌∙◌, ◌⊎◌, inl, inr, subst, arith, rules, Ordering, flat_map, option_map, option_and_then, if◌then◌else◌}
-use Rattle.std.specs.declared.cmp.Ordering.TheVariants.{Less, Equal, Greater}
-use Rattle.std.specs.Ordering.{is_lt, is_eq, nat_cmp}
-use Rattle.std.specs.List.{list_all, list_any}
-use Rattle.std.specs.Cmp.Lexicographic.{slice_cmp}
-use Rattle.std.proofs.lemmas.Bool.{and_parts, and_from, not-true, not-false, not_from_true, or_cases, or_parts, false_from_ne_true}
+use Rattle.std.proofs.Common.{◌≡◌, ◌≢◌, ℕ, Bool, true, false, not, ◌&&◌, ◌||◌, List, [], ◌∷◌, filter, Option, Some, None, refl, ap, sym, ◌∙◌, ◌⊎◌, inl, inr, subst, option_map, option_and_then, if◌then◌else◌}
+use Rattle.std.specs.Ordering.{is_lt}
+use Rattle.std.specs.List.{list_all}
+use Rattle.std.proofs.lemmas.Bool.{and_parts, and_from, not-true, or_cases, false_from_ne_true}
 use Rattle.std.proofs.lemmas.Cmp.{alike_right, tied_itself, tied_back, nat_list_cmp_total}
 use Rattle.std.proofs.lemmas.Map.Lookups.{exact_bytes}
 use Rattle.std.proofs.lemmas.Option.{same_Some}
-use Rattle.rk_key.specs.Keys.{key_cmp}
-use Rattle.rk_model.specs.Operations.{within, is_over}
-use Rattle.rk_model.specs.Covers.{over, is_point, cover}
-use Rattle.rk_model.specs.Lists.{first_of, none_of}
-use Rattle.rk_model.specs.Spans.{at_or_above, above, below, in_bounds, op_ends, written_ends, same_bytes, same_cover, span_start, span_end, WidestSpan, widest_span}
-use Rattle.rk_model.specs.declared.op.Op.{Op}
-use Rattle.rk_model.specs.declared.op.Op.TheVariants.{Put, Del, RangeSet, RangeUnset, RangeDel}
+use Rattle.rk_model.specs.Covers.{cover}
+use Rattle.rk_model.specs.Lists.{none_of}
+use Rattle.rk_model.specs.Spans.{at_or_above, below, in_bounds, written_ends, same_bytes, same_cover, span_start, span_end, WidestSpan, widest_span}
 use Rattle.rk_model.specs.declared.op.Entry.{Entry}
 use Rattle.rk_model.specs.declared.span.SuffixValue.{SuffixValue}
 use Rattle.rk_model.specs.declared.options.IterOptions.{IterOptions}
 use Rattle.rk_laws.specs.Neighbours.{SpanOfEachCover, SpanHasOneCover, SpanEndDiffers, BeforeSpanDiffers, is_between}
-use Rattle.rk_laws.proofs.Members.{Among, Ascending, ascending_filter, among_filter, filter_among, first_among, first_is, first_least, every_gives, every_from, any_false, among_flat_map}
-use Rattle.rk_laws.proofs.Order.{key_total, lt_itself, lt_back, lt_trans, ge_trans, lt_ge, ge_lt, eq_is, eq_from, apart}
+use Rattle.rk_laws.proofs.Members.{Among, ascending_filter, among_filter, filter_among, first_among, first_is, first_least, every_gives, every_from, any_false}
+use Rattle.rk_laws.proofs.Order.{key_total, lt_itself, lt_back, ge_trans, lt_ge, ge_lt, eq_is, eq_from}
 use Rattle.rk_laws.proofs.Ends.{lt, Like, IsEnd, lower, upper, inner, is_end, end_is, Floor, none, some, floor, ends_ascend, Greatest, empty, top, greatest}
-use Rattle.rk_laws.proofs.Plain.{all_ends, is_span, cover_agrees, cover_alike, cover_none}
-use Rattle.rk_laws.proofs.Cuts.{cover_uncut, cover_at_floor, cover_below_ends, end_at_or_above, end_at_or_below, cover_above_ends, below_from, above_from, at_or_above_from, Uncut}
+use Rattle.rk_laws.proofs.Plain.{cover_alike}
+use Rattle.rk_laws.proofs.Cuts.{cover_at_floor, cover_below_ends, end_at_or_above, end_at_or_below, cover_above_ends, below_from, at_or_above_from}
 
 pair_same : (s t v w : List ℕ) → s ≡ t → v ≡ w → ◌≡◌ {A = SuffixValue} (record { suffix = s; value = v }) (record { suffix = t; value = w })
 pair_same s t v w e f = rw (e, f) refl

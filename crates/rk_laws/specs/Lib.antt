@@ -4,3 +4,4 @@ pub mod Neighbours
 pub mod SameCells
 pub mod KeptCells
 pub mod SameEntries
+pub mod Masks

@@ -6,6 +6,7 @@
 #![tactic(auto)]
 
 mod kept_cells;
+mod masks;
 mod neighbours;
 mod newer;
 mod prefixes;
@@ -14,6 +15,10 @@ mod same_entries;
 
 pub use kept_cells::{
     entries_kept_at_the_bottom_give_the_same_cells, kept_entries_give_the_same_cells,
+};
+pub use masks::{
+    a_point_without_a_suffix_is_shown, a_range_key_before_the_mask_hides_nothing,
+    a_range_key_hides_no_point_of_its_own_suffix, without_a_mask_each_point_is_shown,
 };
 pub use neighbours::{
     a_cursor_at_a_key_is_within_the_bounds, at_the_end_of_a_span_the_cover_is_another,
@@ -37,3 +42,6 @@ pub use same_entries::{
     cover_is_that_of_what_the_spans_do, point_is_that_of_its_operations_in_any_order,
     the_order_of_entries_does_not_matter,
 };
+
+#[cfg(test)]
+mod tests;
