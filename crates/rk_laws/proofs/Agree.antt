@@ -23,7 +23,7 @@ use Rattle.rk_laws.proofs.Order.{key_total, lt_trans, ge_trans, eq_is, eq_from}
 use Rattle.rk_laws.proofs.Ends.{lt, Like, IsEnd, lower, upper, inner, is_end, end_is, Floor, none, some, floor, sorted_among, among_sorted, sorted_ascends}
 use Rattle.rk_laws.proofs.Plain.{cover_alike}
 use Rattle.rk_laws.proofs.Cuts.{cover_at_floor, cover_below_ends, at_or_above_from}
-use Rattle.rk_laws.proofs.Widest.{IsStart, IsStop, span_is, span_there, one_up_to, same_cover_from, back, self}
+use Rattle.rk_laws.proofs.Widest.{span_parts, IsStart, IsStop, span_is, span_there, one_up_to, same_cover_from, back, self}
 use Rattle.rk_laws.proofs.Places.{span_ends}
 
 -- the written ends are keys
@@ -124,12 +124,6 @@ module _ (es fs : List Entry) (o : IterOptions) (ke : Keyed es o) (kf : Keyed fs
           let i : in_bounds o a' ≡ true = and_from (at_or_above o.lower a') (below o.upper a') (at_or_above_from o.lower x a' bounds.0 (back x a' s'.past)) e in
           let d' : same_cover (cover es a') (cover es x) ≡ false = rw (same a' (kf a' s'.among) i, same x kx inside) d in
           at_change i d' (floor a' (written_ends es o))
-
-span_parts : (s t : WidestSpan) → s.start ≡ t.start → s.end ≡ t.end → s.cover ≡ t.cover → s ≡ t
-span_parts s t e f g = parts s.start t.start s.end t.end s.cover t.cover e f g
-  where
-    parts : (a b c d : List ℕ) (p q : List SuffixValue) → a ≡ b → c ≡ d → p ≡ q → ◌≡◌ {A = WidestSpan} (record { start = a; end = c; cover = p }) (record { start = b; end = d; cover = q })
-    parts a b c d p q e f g = rw (e, f, g) refl
 
 spans_meet : (es fs : List Entry) (o : IterOptions) → Keyed es o → Keyed fs o → SameCovers es fs o → (x : List ℕ) → IsKey x → in_bounds o x ≡ true → widest_span es o x ≡ widest_span fs o x
 spans_meet es fs o ke kf same x kx inside = go (cover es x) refl

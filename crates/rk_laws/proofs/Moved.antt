@@ -1,5 +1,5 @@
 -- Two lists of entries with the same covers and points within the bounds give the same positions and moves.
-use Rattle.std.proofs.Common.{◌≡◌, ℕ, Bool, true, false, not, ◌&&◌, List, ◌++◌, filter, Option, Some, None, is_some, IfSome, refl, ap, sym, ◌∙◌, ◌⊎◌, inl, inr, subst, flat_map, option_and_then, nat_lt, if◌then◌else◌}
+use Rattle.std.proofs.Common.{◌≡◌, ℕ, Bool, true, false, not, ◌&&◌, List, ◌++◌, filter, Option, Some, None, is_some, IfSome, refl, ap, sym, ◌∙◌, ◌⊎◌, inl, inr, subst, flat_map, option_map, option_and_then, nat_lt, if◌then◌else◌}
 use Rattle.std.specs.declared.cmp.Ordering.TheVariants.{Equal}
 use Rattle.std.specs.Ordering.{is_lt}
 use Rattle.std.specs.Option.{option_map_or}
@@ -11,8 +11,8 @@ use Rattle.rk_model.specs.Operations.{is_over}
 use Rattle.rk_model.specs.Covers.{over, is_point, newest, put_value, point, cover}
 use Rattle.rk_model.specs.Lists.{none_of}
 use Rattle.rk_model.specs.Spans.{in_bounds, WidestSpan, widest_span}
-use Rattle.rk_model.specs.Positions.{hides, is_masked, shown, put_key, positions, Report}
-use Rattle.rk_model.specs.Moves.{Move, First, Last, Next, Prev, SeekGe, SeekLt, least, greatest, raised, lowered, sought, moved, span_of, same_span}
+use Rattle.rk_model.specs.Positions.{hides, is_masked, shown, put_key, positions, Report, report}
+use Rattle.rk_model.specs.Moves.{Move, First, Last, Next, Prev, SeekGe, SeekLt, least, greatest, raised, lowered, sought, moved, span_of, same_span, key_at, span_changed}
 use Rattle.rk_model.specs.declared.op.Op.{Op}
 use Rattle.rk_model.specs.declared.op.Op.TheVariants.{Put, Del, RangeSet, RangeUnset, RangeDel}
 use Rattle.rk_model.specs.declared.op.Entry.{Entry}
@@ -20,7 +20,7 @@ use Rattle.rk_model.specs.declared.span.SuffixValue.{SuffixValue}
 use Rattle.rk_model.specs.declared.options.IterOptions.{IterOptions}
 use Rattle.rk_model.specs.declared.cursor.Cursor.{Cursor}
 use Rattle.rk_model.specs.declared.cursor.Cursor.TheVariants.{Fresh, Start, At, End}
-use Rattle.rk_laws.specs.SameCells.{op_keys, WellFormed, KeyBounds, GiveSameCovers, GiveSameCells, PositionsOfCells, ReportsOfCells, SeeksKey, MovesOfCells, AtKeyWithin, MovesToKeys, ChangesOfCovers}
+use Rattle.rk_laws.specs.SameCells.{op_keys, WellFormed, KeyBounds, GiveSameCovers, GiveSameCells, PositionsOfCells, ReportsOfCells, SeeksKey, MovesOfCells, AtKeyWithin, MovesToKeys, ChangesOfCovers, ViewsOfCells}
 use Rattle.rk_laws.proofs.Members.{Among, among_append, among_left, among_right, among_filter, filter_among, among_flat_map, flat_map_among, first_among}
 use Rattle.rk_laws.proofs.Order.{key_total, eq_is}
 use Rattle.rk_laws.proofs.Ends.{lt, sorted_among}
@@ -193,3 +193,18 @@ moves_to_keys es o h b c move k = go (moved es o c move) refl
     go Start e = tt
     go (At x) e = (key_of x e, cursor_within_bounds es o c move x e)
     go End e = tt
+
+report_at_same : (es fs : List Entry) (o : IterOptions) → GiveSameCells es fs o → (c : Cursor) → AtKeyWithin o c → option_map (report es o) (key_at c) ≡ option_map (report fs o) (key_at c)
+report_at_same es fs o g Fresh h = refl
+report_at_same es fs o g Start h = refl
+report_at_same es fs o g (At x) h = ap Some (reports_of_cells es fs o g x h.0 h.1)
+report_at_same es fs o g End h = refl
+
+pub views_of_cells : ViewsOfCells
+views_of_cells es fs o g c before h move k =
+    let e = moves_of_cells es fs o g c move k in
+    let n = moves_to_keys es o g.covered.first g.covered.bounds c move k in (
+      e,
+      changes_of_covers es fs o g.covered c (moved es o c move) h n ∙ ap (λ d. span_changed fs o c d) e,
+      report_at_same es fs o g (moved es o c move) n ∙ ap (λ d. option_map (report fs o) (key_at d)) e,
+    )

@@ -12,8 +12,8 @@ use Rattle.rk_model.specs.Spans.{at_or_above, below, in_bounds, written_ends, sa
 use Rattle.rk_model.specs.declared.op.Entry.{Entry}
 use Rattle.rk_model.specs.declared.span.SuffixValue.{SuffixValue}
 use Rattle.rk_model.specs.declared.options.IterOptions.{IterOptions}
-use Rattle.rk_laws.specs.Neighbours.{SpanOfEachCover, SpanHasOneCover, SpanEndDiffers, BeforeSpanDiffers, is_between}
-use Rattle.rk_laws.proofs.Members.{Among, ascending_filter, among_filter, filter_among, first_among, first_is, first_least, every_gives, every_from, any_false}
+use Rattle.rk_laws.specs.Neighbours.{SpanOfEachCover, SpanHasOneCover, SpanOfItsKeys, SpanEndDiffers, BeforeSpanDiffers, is_between}
+use Rattle.rk_laws.proofs.Members.{Among, Ascending, among_all, ascending_filter, among_filter, filter_among, first_among, first_is, first_least, every_gives, every_from, any_false}
 use Rattle.rk_laws.proofs.Order.{key_total, lt_itself, lt_back, ge_trans, lt_ge, ge_lt, eq_is, eq_from}
 use Rattle.rk_laws.proofs.Ends.{lt, Like, IsEnd, lower, upper, inner, is_end, end_is, Floor, none, some, floor, ends_ascend, Greatest, empty, top, greatest}
 use Rattle.rk_laws.proofs.Plain.{cover_alike}
@@ -304,3 +304,96 @@ before_span_differs es o x y s inside h y_inside before nothing same = go (floor
                 third : (v : Bool) → lt b s.start ≡ v → v ≡ false
                 third false r = refl
                 third true r = let z : (lt y b && lt b s.start) ≡ false = any_false (is_between y s.start) (written_ends es o) b nothing n in (let zz : (lt y b && lt b s.start) ≡ true = and_from (lt y b) (lt b s.start) e r in cc)
+
+pub span_parts : (s t : WidestSpan) → s.start ≡ t.start → s.end ≡ t.end → s.cover ≡ t.cover → s ≡ t
+span_parts s t e f g = parts s.start t.start s.end t.end s.cover t.cover e f g
+  where
+    parts : (a b c d : List ℕ) (p q : List SuffixValue) → a ≡ b → c ≡ d → p ≡ q → ◌≡◌ {A = WidestSpan} (record { start = a; end = c; cover = p }) (record { start = b; end = d; cover = q })
+    parts a b c d p q e f g = rw (e, f, g) refl
+
+-- of written ends that are ordered alike there is one
+one_end : (es : List Entry) (o : IterOptions) (a b : List ℕ) → Among a (written_ends es o) → Among b (written_ends es o) → lt a b ≡ false → lt b a ≡ false → a ≡ b
+one_end es o a b m n h k = go (written_ends es o) (ends_ascend es o) m n
+  where
+    go : (l : List (List ℕ)) → Ascending lt l → Among a l → Among b l → a ≡ b
+    go [] up m n = absurd m
+    go (x ∷ xs) up (inl e) (inl f) = e ∙ sym f
+    go (x ∷ xs) up (inl e) (inr n) = let p : lt x b ≡ true = among_all (λ z. lt x z ≡ true) xs b up.0 n in (let q : lt x b ≡ false = sym (ap (λ z. lt z b) e) ∙ h in cc)
+    go (x ∷ xs) up (inr m) (inl f) = let p : lt x a ≡ true = among_all (λ z. lt x z ≡ true) xs a up.0 m in (let q : lt x a ≡ false = sym (ap (λ z. lt z a) f) ∙ k in cc)
+    go (x ∷ xs) up (inr m) (inr n) = go xs up.1 m n
+
+span_unique : (es : List Entry) (o : IterOptions) (x : List ℕ) (s t : WidestSpan) → IsStart es o x s.start → IsStop es o x s.end → s.cover ≡ cover es x → IsSpan es o x t → t ≡ s
+span_unique es o x s t a b c i = span_parts t s (one_end es o t.start s.start i.start.among a.among (a.least t.start i.start.among i.start.upto i.start.one) (i.start.least s.start a.among a.upto a.one)) (one_end es o t.end s.end i.stop.among b.among (b.least t.end i.stop.among i.stop.past i.stop.differs) (i.stop.least s.end b.among b.past b.differs)) (i.has ∙ sym c)
+
+pub span_of_its_keys : SpanOfItsKeys
+span_of_its_keys es o x y s inside h over_y =
+    let (t, g) = span_there es o y here.1 some_cover in
+    g ∙ ap Some (span_unique es o y s t start stop (sym here.0) (span_is es o y t g))
+  where
+    i : IsSpan es o x s
+    i = span_is es o x s h
+
+    here : (cover es y ≡ s.cover) × (in_bounds o y ≡ true)
+    here = span_has_one_cover es o x y s inside h over_y
+
+    ends : (not (lt y s.start) ≡ true) × (lt y s.end ≡ true)
+    ends = and_parts (not (lt y s.start)) (lt y s.end) over_y
+
+    low : lt y s.start ≡ false
+    low = not-true (lt y s.start) ends.0
+
+    alike : cover es y ≡ cover es x
+    alike = here.0 ∙ i.has
+
+    some_cover : cover es y ≢ []
+    some_cover e = i.some (sym alike ∙ e)
+
+    inner_key : (b : List ℕ) → lt b s.start ≡ false → lt b s.end ≡ true → (cover es b ≡ s.cover) × (in_bounds o b ≡ true)
+    inner_key b l u = span_has_one_cover es o x b s inside h (and_from (not (lt b s.start)) (lt b s.end) (rw l refl) u)
+
+    start : IsStart es o y s.start
+    start = record {
+      among = i.start.among;
+      upto = low;
+      one = λ b m k g. (inner_key b g (ge_lt key_total b y s.end k ends.1)).0 ∙ sym here.0;
+      least = least;
+    }
+      where
+        least : (c : List ℕ) → Among c (written_ends es o) → lt y c ≡ false → ((b : List ℕ) → Among b (written_ends es o) → lt y b ≡ false → lt b c ≡ false → cover es b ≡ cover es y) → lt c s.start ≡ false
+        least c m k f = go (lt c s.start) refl
+          where
+            one : lt c s.start ≡ true → (b : List ℕ) → Among b (written_ends es o) → lt x b ≡ false → lt b c ≡ false → cover es b ≡ cover es x
+            one e b n l g = either (lt y b) refl
+              where
+                either : (t : Bool) → lt y b ≡ t → cover es b ≡ cover es x
+                either false r = f b n r g ∙ alike
+                either true r = i.start.one b n l (ge_trans key_total b y s.start (lt_back key_total y b r) low)
+
+            go : (t : Bool) → lt c s.start ≡ t → t ≡ false
+            go false e = refl
+            go true e =
+                let u : lt x c ≡ false = lt_back key_total c x (lt_ge key_total c s.start x e i.start.upto) in
+                let p : lt c s.start ≡ false = i.start.least c m u (one e) in
+                cc
+
+    stop : IsStop es o y s.end
+    stop = record {
+      among = i.stop.among;
+      past = ends.1;
+      differs = elim i.stop.differs [ inl d ↦ inl d | inr d ↦ inr (rw alike d) ];
+      least = least;
+    }
+      where
+        least : (c : List ℕ) → Among c (written_ends es o) → lt y c ≡ true → (below o.upper c ≡ false) ⊎ (same_cover (cover es c) (cover es y) ≡ false) → lt c s.end ≡ false
+        least c m k d = go (lt c s.end) refl d
+          where
+            go : (t : Bool) → lt c s.end ≡ t → (below o.upper c ≡ false) ⊎ (same_cover (cover es c) (cover es y) ≡ false) → t ≡ false
+            go false e d = refl
+            go true e (inl d) =
+                let p = inner_key c (ge_trans key_total c y s.start (lt_back key_total y c k) low) e in
+                let q : below o.upper c ≡ true = (and_parts (at_or_above o.lower c) (below o.upper c) p.1).1 in
+                cc
+            go true e (inr d) =
+                let p = inner_key c (ge_trans key_total c y s.start (lt_back key_total y c k) low) e in
+                let q : same_cover (cover es c) (cover es y) ≡ true = same_cover_from (cover es c) (cover es y) (p.0 ∙ sym here.0) in
+                cc

@@ -23,6 +23,11 @@ abbrev pub SpanHasOneCover : Type 0
 SpanHasOneCover = (es : List Entry) (o : IterOptions) (x y : List ℕ) (s : WidestSpan) → in_bounds o x ≡ true → widest_span es o x ≡ Some s →
     within s.start s.end y ≡ true → (cover es y ≡ s.cover) × (in_bounds o y ≡ true)
 
+-- each key of a span has this span
+abbrev pub SpanOfItsKeys : Type 0
+SpanOfItsKeys = (es : List Entry) (o : IterOptions) (x y : List ℕ) (s : WidestSpan) → in_bounds o x ≡ true → widest_span es o x ≡ Some s →
+    within s.start s.end y ≡ true → widest_span es o y ≡ Some s
+
 -- the end of a span is the upper bound, or has another cover
 abbrev pub SpanEndDiffers : Type 0
 SpanEndDiffers = (es : List Entry) (o : IterOptions) (x : List ℕ) (s : WidestSpan) → in_bounds o x ≡ true → widest_span es o x ≡ Some s →

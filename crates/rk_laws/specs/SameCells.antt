@@ -1,12 +1,12 @@
 -- Laws of two lists of entries with the same covers and points within an iterator's bounds: the iterator
 -- can't tell them apart, whichever entries made the covers and wherever they were cut.
-use Rattle.std.specs.Prelude.{◌≡◌, ℕ, true, ◌&&◌, List, [], ◌∷◌, filter, IfSome}
+use Rattle.std.specs.Prelude.{◌≡◌, ℕ, Bool, true, ◌&&◌, List, [], ◌∷◌, filter, IfSome}
 use Rattle.std.specs.List.{All}
 use Rattle.rk_key.specs.Keys.{IsKey}
 use Rattle.rk_model.specs.Covers.{point, cover}
 use Rattle.rk_model.specs.Spans.{in_bounds, sorted_keys, written_ends, widest_span}
 use Rattle.rk_model.specs.Positions.{begins_span, positions, report}
-use Rattle.rk_model.specs.Moves.{Move, First, Last, Next, Prev, SeekGe, SeekLt, moved, key_at, span_changed}
+use Rattle.rk_model.specs.Moves.{Move, First, Last, Next, Prev, SeekGe, SeekLt, moved, key_at, span_changed, after_move, reported}
 use Rattle.rk_model.specs.declared.op.Op.{Op}
 use Rattle.rk_model.specs.declared.op.Op.TheVariants.{Put, Del, RangeSet, RangeUnset, RangeDel}
 use Rattle.rk_model.specs.declared.op.Entry.{Entry}
@@ -89,3 +89,10 @@ MovesToKeys = (es : List Entry) (o : IterOptions) → WellFormed es → KeyBound
 abbrev pub ChangesOfCovers : Type 0
 ChangesOfCovers = (es fs : List Entry) (o : IterOptions) → GiveSameCovers es fs o → (old new : Cursor) → AtKeyWithin o old → AtKeyWithin o new →
     span_changed es o old new ≡ span_changed fs o old new
+
+-- an iterator over the one list and an iterator over the other, both where a cursor stands, show the same after a move
+abbrev pub ViewsOfCells : Type 0
+ViewsOfCells = (es fs : List Entry) (o : IterOptions) → GiveSameCells es fs o → (c : Cursor) (before : Bool) → AtKeyWithin o c → (move : Move) → SeeksKey move →
+    let v = after_move (record { sees = es; options = o; cursor = c; changed = before }) move in
+    let w = after_move (record { sees = fs; options = o; cursor = c; changed = before }) move in
+    (v.cursor ≡ w.cursor) × (v.changed ≡ w.changed) × (reported v ≡ reported w)

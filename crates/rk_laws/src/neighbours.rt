@@ -1,4 +1,4 @@
-ghost use Rattle.rk_laws.specs.Neighbours.{BeforeSpanDiffers, CursorWithinBounds, PositionsRise, SpanEndDiffers, SpanHasOneCover, SpanOfEachCover};
+ghost use Rattle.rk_laws.specs.Neighbours.{BeforeSpanDiffers, CursorWithinBounds, PositionsRise, SpanEndDiffers, SpanHasOneCover, SpanOfItsKeys, SpanOfEachCover};
 
 /// Each key within the bounds that has a cover has a widest span, which is over it.
 pub fn each_cover_has_a_span()
@@ -8,6 +8,11 @@ pub fn each_cover_has_a_span()
 /// Each key of a widest span has the cover of the span, and is within the bounds.
 pub fn each_key_of_a_span_has_its_cover()
     ensures { SpanHasOneCover }
+{}
+
+/// Each key of a widest span has this span.
+pub fn each_key_of_a_span_has_this_span()
+    ensures { SpanOfItsKeys }
 {}
 
 /// The end of a widest span is the upper bound, or has another cover.

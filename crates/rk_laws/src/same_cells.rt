@@ -1,4 +1,4 @@
-ghost use Rattle.rk_laws.specs.SameCells.{ChangesOfCovers, MovesOfCells, MovesToKeys, PositionsOfCells, ReportsOfCells, SpanStartsOfCovers, SpansOfCovers};
+ghost use Rattle.rk_laws.specs.SameCells.{ChangesOfCovers, MovesOfCells, MovesToKeys, PositionsOfCells, ReportsOfCells, SpanStartsOfCovers, SpansOfCovers, ViewsOfCells};
 
 /// Two lists of entries with the same covers within the bounds have the same widest spans there.
 pub fn widest_spans_are_those_of_the_covers()
@@ -34,4 +34,10 @@ pub fn a_move_leads_to_a_key_within_the_bounds()
 /// Two lists of entries with the same covers within the bounds agree whether a move changed the span.
 pub fn changes_of_span_are_those_of_the_covers()
     ensures { ChangesOfCovers }
+{}
+
+/// Iterators over two lists of entries with the same covers and points within the bounds show the same after
+/// each move.
+pub fn an_iterator_shows_the_cells_alone()
+    ensures { ViewsOfCells }
 {}
