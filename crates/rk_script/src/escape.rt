@@ -1,5 +1,5 @@
 // Words for bytes.
-ghost use Rattle.std.specs.Prelude.{◌≡◌, ◌<◌, ◌++◌, take, IfOk, OnOk, OnErr, IfSome, MatchOption, length, Some, None, vec_len, option_map, option_and_then};
+ghost use Rattle.std.specs.Prelude.{◌≡◌, ◌<◌, ◌++◌, take, IfOk, OnOk, OnErr, IfSome, length, vec_len, option_map, option_and_then};
 ghost use Rattle.rk_script.specs.Words.{hex_digit, hex_value, hex_byte, is_plain, escaped_byte, escaped_bytes, escaped, unescaped, unescaped_bytes, byte_before};
 ghost use Rattle.rk_script.specs.Laws.{ReadsBackWhatIsPrinted};
 
@@ -123,6 +123,7 @@ fn push_each(out: &mut Vec<u8>, bytes: &[u8]) -> Result<(), NoMemory>
     Ok(())
 }
 
+/// Appends a byte as it stands in a word.
 fn push_byte(out: &mut Vec<u8>, byte: u8) -> Result<(), AllocError>
     ensures ok { OnOk result (out.new.items ≡ out.old.items ++ escaped_byte byte) }
     ensures err { OnErr result (out.new.items ≡ out.old.items) }

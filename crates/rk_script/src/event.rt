@@ -1,5 +1,5 @@
 // What the words of a line ask for.
-ghost use Rattle.std.specs.Prelude.{◌≡◌, IfOk, Some, None, map, if◌then◌else◌};
+ghost use Rattle.std.specs.Prelude.{◌≡◌, IfOk, map};
 ghost use Rattle.rk_script.specs.Script.{event_of, one_name, of_range_set, of_five_words, range_set};
 
 use crate::Event;
@@ -56,6 +56,7 @@ fn of_range_set(alloc: Global, words: &[&[u8]]) -> Result<Option<Event>, NoMemor
     }
 }
 
+/// A range key set, from its five words.
 fn of_five_words(
     alloc: Global,
     writer: &[u8],
@@ -92,6 +93,7 @@ fn of_five_words(
     )
 }
 
+/// A range key set whose keys, suffix and value are as they must be.
 fn range_set(
     alloc: Global,
     writer: &[u8],

@@ -1,9 +1,7 @@
 // The names that the lines of a file use.
-ghost use Rattle.std.specs.Prelude.{true, ◌≡◌, ◌<◌, ◌∷◌, ◌++◌, [], ◌+◌, ◌-◌, IfOk, OnOk, length, Some, None, option_map};
-ghost use Rattle.std.specs.List.{list_any};
+ghost use Rattle.std.specs.Prelude.{◌≡◌, true, OnOk};
 ghost use Rattle.rk_model.specs.Named.{named, with_named};
-ghost use Rattle.rk_model.specs.Spans.{same_bytes};
-ghost use Rattle.rk_script.specs.Script.{is_accepted, names_after, no_names, count_of, is_among};
+ghost use Rattle.rk_script.specs.Script.{is_accepted, names_after, no_names, is_among};
 
 use crate::Event;
 use crate::words::is_word;
@@ -83,7 +81,7 @@ impl NamesInUse {
     }
 }
 
-/// What has the name.
+/// The count under the name.
 fn count_named(writers: &[(Bytes, u64)], name: &[u8]) -> Option<u64>
     ensures { result ≡ named name.now writers.now }
 {
@@ -114,6 +112,7 @@ fn set_count(
     Ok(())
 }
 
+/// Whether a name is among these.
 fn is_among(name: &[u8], names: &[Bytes]) -> bool
     ensures { result ≡ is_among name.now names.now }
 {

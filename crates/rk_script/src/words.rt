@@ -1,6 +1,5 @@
 // Lines and words.
-ghost use Rattle.std.specs.Prelude.{◌≡◌, IfOk, map};
-ghost use Rattle.std.specs.Prelude.{◌==◌};
+ghost use Rattle.std.specs.Prelude.{◌≡◌, ◌==◌, IfOk, map};
 ghost use Rattle.std.specs.List.{list_all};
 ghost use Rattle.rk_model.specs.Spans.{same_bytes};
 ghost use Rattle.rk_script.specs.Words.{words, space, is_skipped, is_printable, is_name, is_name_byte};
