@@ -3,12 +3,16 @@ ghost use Rattle.rk_key.specs.declared.error.KeyError.TheVariants.{Memory};
 
 use std::alloc::AllocError;
 
-/// What was read where bytes were refused.
+/// What the refused bytes were to be.
 #[derive(Clone, Copy, Debug, PartialEq, Eq)]
 pub enum Which {
+    /// A key.
     Key,
+    /// The start of a span.
     Start,
+    /// The end of a span.
     End,
+    /// A suffix.
     Suffix,
 }
 
