@@ -312,3 +312,6 @@ fn is_same_span(old: &Option<KeptSpan>, new: &Option<KeptSpan>) -> bool
         _ => false,
     }
 }
+
+#[cfg(test)]
+mod tests;
