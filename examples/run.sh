@@ -48,8 +48,10 @@ fails_with() {
 }
 
 head -c 1048577 /dev/zero | tr '\0' '#' >"$room/long"
-fails_with 'file too long' 3 <"$room/long"
+fails_with 'file too long' 3 <"$room/long" >"$room/none"
 # A folder can be opened as input, but not read, and this device takes no byte.
-fails_with 'source fault' 4 <examples
+fails_with 'source fault' 4 <examples >>"$room/none"
 fails_with 'sink fault' 5 <examples/empty.rk >/dev/full
+[ ! -s "$room/none" ]
+tell 'nothing written' "$?"
 exit "$failed"
