@@ -1,0 +1,50 @@
+//! The program `rkrange`: it runs a command file over standard input and writes its transcript to standard
+//! output. It stands on `rk_program`, whose call `run` does all of it, and on `rk_outside` for the adapters
+//! over standard input and standard output.
+//!
+//! At status 0 nothing goes to standard error. Any other end is told there in one line.
+#![tactic(auto)]
+
+mod message;
+
+use message::Message;
+use rk_outside::{ReadSource, WriteSink};
+use rk_program::{Cause, run};
+use std::alloc::Global;
+use std::env::{self, Args};
+use std::io;
+use std::process::ExitCode;
+
+fn main(rt: HostRuntime) -> ExitCode {
+    let cause = match words(env::args(&rt), rt.alloc()) {
+        Ok(words) => {
+            let mut source = ReadSource::new(rt.stdin());
+            let mut sink = WriteSink::new(rt.stdout());
+            run(rt.alloc(), &words, &mut source, &mut sink, ()).cause
+        }
+        Err(cause) => cause,
+    };
+    if cause != Cause::Done {
+        // Where the line can't be written, the status still tells of the end.
+        let _ = eprintln!(rt; "rkrange: {}", Message { cause });
+    }
+    exit_code(&cause)
+}
+
+// The words after the program's name. Where they can't be had, as where one is no text, they are none that
+// the program takes.
+fn words(args: io::Result<Args>, alloc: Global) -> Result<Vec<String>, Cause> {
+    let args = args.map_err(|_| Cause::Words)?;
+    args.skip(1).collect(alloc).map_err(|_| Cause::Memory)
+}
+
+ghost use Rattle.std.specs.Prelude.{◌≡◌};
+ghost use Rattle.std.specs.Process.{exit_status};
+ghost use Rattle.rk_program.specs.Ends.{status_of};
+
+// What the process ends with after a run that ended so.
+fn exit_code(cause: &Cause) -> ExitCode
+    ensures { exit_status result ≡ status_of cause.now }
+{
+    ExitCode::from(cause.status())
+}
