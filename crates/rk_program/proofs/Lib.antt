@@ -1,0 +1,9 @@
+pub mod BatchLemmas
+pub mod CauseLemmas
+pub mod EndLemmas
+pub mod LineLemmas
+pub mod NameLemmas
+pub mod Naming
+pub mod OutputLemmas
+pub mod SessionLemmas
+pub mod Transcripts

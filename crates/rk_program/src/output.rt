@@ -1,0 +1,47 @@
+// What is written to a sink.
+ghost use Rattle.std.specs.Prelude.{◌≤◌, length, OnOk, OnErr, IfErr};
+ghost use Rattle.std.specs.Io.KnownBytes.{Appends, Keeps};
+ghost use Rattle.rk_outside.specs.Sinks.{AppendsPrefix};
+ghost use Rattle.rk_program.specs.Output.{IsWriteFailure};
+
+use crate::Cause;
+use rk_outside::{Failed, Sink, SinkError};
+
+/// Writes all the bytes. Each turn gives at least one byte. After a failure some first bytes were written.
+pub fn write_all<K: Sink>(sink: &mut K, bytes: &[u8]) -> Result<(), Cause>
+    ensures written { OnOk result (Appends (K.written sink.old) (K.written sink.new) bytes.now) }
+    ensures part { OnErr result (AppendsPrefix (K.written sink.old) (K.written sink.new) bytes.now) }
+    ensures cause { IfErr result (IsWriteFailure (K.fault_count sink.old) (K.fault_count sink.new)) }
+    ensures later { K.fault_count sink.old ≤ K.fault_count sink.new }
+{
+    let mut rest = bytes;
+    while !rest.is_empty() {
+        match sink.write(rest) {
+            Ok(count) => {
+                let (_, after) = rest.split_at(count);
+                rest = after;
+            }
+            Err(SinkError::Memory) => return Err(Cause::Memory),
+            Err(SinkError::Failed) => {
+                return Err(Cause::SinkFault {
+                    faults: sink.faults(),
+                });
+            }
+        }
+    }
+    Ok(())
+}
+
+/// Hands on what was written.
+pub fn finish<K: Sink>(sink: &mut K) -> Result<(), Cause>
+    ensures kept { Keeps (K.written sink.old) (K.written sink.new) }
+    ensures cause { IfErr result (IsWriteFailure (K.fault_count sink.old) (K.fault_count sink.new)) }
+    ensures later { K.fault_count sink.old ≤ K.fault_count sink.new }
+{
+    match sink.finish() {
+        Ok(()) => Ok(()),
+        Err(Failed) => Err(Cause::SinkFault {
+            faults: sink.faults(),
+        }),
+    }
+}
