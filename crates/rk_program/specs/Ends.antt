@@ -112,7 +112,7 @@ IsNoFile left_before left_now count_before count_now cause.Memory = ⊤
 
 -- what each end of a run tells
 abbrev pub IsEnd : (left_before left_now written_before written_now : Option (List ℕ)) → (source_before source_now sink_before sink_now : ℕ) → Cause → Type 0
-IsEnd lb ln wb wn sb sn kb kn cause.Done = DidAll lb ln wb wn
+IsEnd lb ln wb wn sb sn kb kn cause.Done = DidAll lb ln wb wn × (sn ≡ sb) × (kn ≡ kb)
 IsEnd lb ln wb wn sb sn kb kn cause.Words = ⊤
 IsEnd lb ln wb wn sb sn kb kn (cause.Line line why) = GaveBadLine lb ln line why
 IsEnd lb ln wb wn sb sn kb kn (cause.Length limit) = (limit ≡ most_file_bytes) × GaveTooMany lb ln

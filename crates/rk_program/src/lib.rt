@@ -1,4 +1,9 @@
-//! The program.
+//! The program `rkrange`, over any source, sink and vault.
+//!
+//! It stands on rk_script, which reads command files, on rk_model, whose plain evaluator answers the moves
+//! of an iterator, on the definitions of rk_machine, and on rk_outside. Its main contract is that of `run`:
+//! what is written is the transcript of a run of the machine over the lines of the file, each position what
+//! the whole operations up to the iterator's number give, and each way to end has its cause.
 #![tactic(auto)]
 
 mod batches;
@@ -13,3 +18,6 @@ mod session;
 pub use cause::{Cause, Ended};
 pub use program::run;
 pub use rk_script::Why;
+
+#[cfg(test)]
+mod tests;

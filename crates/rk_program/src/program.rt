@@ -41,6 +41,9 @@ pub fn run<S: Source, K: Sink, V>(
     ensures source_count { S.fault_count source.old ≤ S.fault_count source.new }
     ensures sink_count { K.fault_count sink.old ≤ K.fault_count sink.new }
 
+    // A run that is done has passed over no fault.
+    ensures no_fault { OnDone result.cause ((S.fault_count source.new ≡ S.fault_count source.old) × (K.fault_count sink.new ≡ K.fault_count sink.old)) }
+
     // Where no line was done, the sink is as before.
     ensures not_begun { OnNotBegun result.cause (sink.new ≡ sink.old) }
 
@@ -99,6 +102,7 @@ fn read_lines<S: Source>(alloc: Global, source: &mut S) -> Result<Vec<Line>, Cau
     ensures lines { IfOk result (λ lines. GaveLines (S.left source.old) (S.left source.new) lines.items) }
     ensures cause { IfErr result (IsNoFile (S.left source.old) (S.left source.new) (S.fault_count source.old) (S.fault_count source.new)) }
     ensures later { S.fault_count source.old ≤ S.fault_count source.new }
+    ensures no_fault { OnOk result (S.fault_count source.new ≡ S.fault_count source.old) }
 {
     let file = match read_all(alloc, source) {
         Ok(file) => file,
@@ -118,6 +122,7 @@ fn do_lines<K: Sink>(alloc: Global, lines: &[Line], sink: &mut K) -> Result<(), 
     ensures part { OnErr result (WrotePart (K.written sink.old) (K.written sink.new) lines.now) }
     ensures cause { IfErr result (IsWriteFailure (K.fault_count sink.old) (K.fault_count sink.new)) }
     ensures later { K.fault_count sink.old ≤ K.fault_count sink.new }
+    ensures no_fault { OnOk result (K.fault_count sink.new ≡ K.fault_count sink.old) }
 {
     let mut session = Session::new(alloc);
     for line in lines {

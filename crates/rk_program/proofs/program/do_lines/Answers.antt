@@ -1,4 +1,4 @@
-use Rattle.std.proofs.Common.{◌≡◌, arith, take}
+use Rattle.std.proofs.Common.{◌≡◌, ◌∙◌, take}
 use Rattle.std.proofs.lemmas.List.{take_all}
 use Rattle.rk_program.proofs.CauseLemmas.{OnOk-always, OnErr-always}
 use Rattle.std.proofs.KnownBytes.{Keeps-refl}
@@ -31,7 +31,7 @@ loop-line-preserved g c =
     let does = c.in-Ok.ensures so_far.state so_far.stands in
     record {
       so_far = rw next.1 (SoFar-more _ _ _ _ _ _ _ _ _ so_far does.0 does.1 does.2 (rw c.deref.ensures.value at c.in_ok-write_all.ensures.written));
-      later = omega arith;
+      no_fault = c.in_ok-write_all.ensures.no_fault ∙ c.loop-line.invariant.no_fault;
     }
 
 pub returns-clause-done : goal.returns-clause-done
