@@ -1,6 +1,5 @@
 -- A cause with a count that rose in a part of a call is one of the whole call.
 use Rattle.std.proofs.Common.{ℕ, ◌≤◌, List, Option, arith}
-use Rattle.std.specs.Prelude.{Result, Ok, Err, OnOk, OnErr}
 use Rattle.rk_outside.specs.Causes.{Rose}
 use Rattle.rk_program.specs.Input.{IsInputEnd, IsReadFailure}
 use Rattle.rk_program.specs.declared.cause.Cause.{Cause}
@@ -17,11 +16,3 @@ IsReadFailure-whole a b first between now (Length limit) later h = absurd h
 IsReadFailure-whole a b first between now (SourceFault faults) later h = (Rose-earlier first between now later h.0, h.1)
 IsReadFailure-whole a b first between now (SinkFault faults) later h = h
 IsReadFailure-whole a b first between now Memory later h = h
-
-pub OnOk-always : {T E P : Type 0} → (r : Result T E) → P → OnOk r P
-OnOk-always (Ok v) p = p
-OnOk-always (Err e) p = tt
-
-pub OnErr-always : {T E P : Type 0} → (r : Result T E) → P → OnErr r P
-OnErr-always (Ok v) p = tt
-OnErr-always (Err e) p = p

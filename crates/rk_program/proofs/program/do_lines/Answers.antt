@@ -1,6 +1,5 @@
-use Rattle.std.proofs.Common.{◌≡◌, ◌∙◌, take}
+use Rattle.std.proofs.Common.{◌≡◌, arith, take}
 use Rattle.std.proofs.lemmas.List.{take_all}
-use Rattle.rk_program.proofs.CauseLemmas.{OnOk-always, OnErr-always}
 use Rattle.std.proofs.KnownBytes.{Keeps-refl}
 use Rattle.std.proofs.lemmas.Result.{err_from_is_err_and}
 use Rattle.rk_program.proofs.Transcripts.{SoFar-more, SoFar-all, SoFar-part, SoFar-more_part, next_line}
@@ -31,15 +30,19 @@ loop-line-preserved g c =
     let does = c.in-Ok.ensures so_far.state so_far.stands in
     record {
       so_far = rw next.1 (SoFar-more _ _ _ _ _ _ _ _ _ so_far does.0 does.1 does.2 (rw c.deref.ensures.value at c.in_ok-write_all.ensures.written));
-      no_fault = c.in_ok-write_all.ensures.no_fault ∙ c.loop-line.invariant.no_fault;
+      later = omega arith;
     }
 
 pub returns-clause-done : goal.returns-clause-done
 returns-clause-done g c =
     let all : take c.loop-line.line-index c.args.lines.now ≡ c.args.lines.now = take_all c.loop-line.line-index c.args.lines.now c.loop-line-test.false in
     let so_far = rw all at c.loop-line.invariant.so_far in
-    OnOk-always c.finish.result (SoFar-all _ _ _ _ _ _ so_far c.finish.ensures.kept)
+    SoFar-all _ _ _ _ _ _ so_far c.finish.ensures.kept
 
-pub returns-clause-part : goal.returns-clause-part
-returns-clause-part g c =
-    OnErr-always c.finish.result (SoFar-part _ _ _ _ _ _ _ c.loop-line.invariant.so_far c.finish.ensures.kept)
+pub returns-in_err-finish-clause-part : goal.returns-in_err-finish-clause-part
+returns-in_err-finish-clause-part g c =
+    let p = err_from_is_err_and c.from_residual-in_err-finish.result c.from_residual-in_err-finish.ensures.1 in
+    rw p.1 (SoFar-part _ _ _ _ _ _ _ c.loop-line.invariant.so_far c.finish.ensures.kept)
+
+pub returns-then-faults-before-clause-part : goal.returns-then-faults-before-clause-part
+returns-then-faults-before-clause-part g c = SoFar-part _ _ _ _ _ _ _ c.loop-line.invariant.so_far c.finish.ensures.kept
