@@ -14,24 +14,43 @@ use stop::Stop;
 
 /// Prints the walk.
 fn main(rt: HostRuntime) -> Result<(), Stop> {
-    let alloc = rt.alloc();
+    let mut plain = start(rt.alloc())?;
+    let mut out = io::writer(&rt);
+    plain.first()?;
+    show(&mut out, &plain)?;
+    forward(&mut out, &mut plain)?;
+    backward(&mut out, &mut plain)
+}
+
+// The evaluator over the history, with the mask.
+fn start(alloc: Global) -> Result<Plain, Stop> {
     let entries = history(alloc)?;
+    masked(alloc, &entries)
+}
+
+fn masked(alloc: Global, entries: &[Entry]) -> Result<Plain, Stop> {
     let options = IterOptions {
         lower: None,
         upper: None,
         mask: Some(read_suffix(alloc, b"@30")?),
     };
-    let mut plain = Plain::new(alloc, &entries, &options)?;
-    let mut out = io::writer(&rt);
-    plain.first()?;
-    show(&mut out, &plain)?;
+    Ok(Plain::new(alloc, entries, &options)?)
+}
+
+// From the first position to the end.
+fn forward<W: Write>(out: &mut W, plain: &mut Plain) -> Result<(), Stop> {
     for _ in 0..33 {
         plain.next()?;
-        show(&mut out, &plain)?;
+        show(out, plain)?;
     }
+    Ok(())
+}
+
+// From the end to the first position.
+fn backward<W: Write>(out: &mut W, plain: &mut Plain) -> Result<(), Stop> {
     for _ in 0..33 {
         plain.prev()?;
-        show(&mut out, &plain)?;
+        show(out, plain)?;
     }
     Ok(())
 }
@@ -45,14 +64,17 @@ fn history(alloc: Global) -> Result<Vec<Entry>, Stop> {
             append(&mut entries, op)?;
         }
     }
-    let op = Op::RangeSet {
+    append(&mut entries, range_key(alloc)?)?;
+    Ok(entries)
+}
+
+fn range_key(alloc: Global) -> Result<Op, Stop> {
+    Ok(Op::RangeSet {
         start: read_key(alloc, b"k3")?,
         end: read_key(alloc, b"k7")?,
         suffix: read_suffix(alloc, b"@25")?,
         value: Bytes::from_slice(alloc, b"")?,
-    };
-    append(&mut entries, op)?;
-    Ok(entries)
+    })
 }
 
 fn append(entries: &mut Vec<Entry>, op: Op) -> Result<(), Stop> {
