@@ -47,7 +47,21 @@ fails_with() {
   tell "$1" "$?"
 }
 
-head -c 1048577 /dev/zero | tr '\0' '#' >"$room/long"
+# Lines of the greatest lengths: a batch is filled with values, and another with operations.
+value=$(head -c 32768 /dev/zero | tr '\0' v)
+{
+  echo "put w a v$value"
+  for _ in {1..32}; do echo "put w a $value"; done
+  echo "put w a ${value:163}"
+  for _ in {1..1001}; do echo 'del v a'; done
+} >"$room/filled"
+./rkrange run <"$room/filled" >"$room/told"
+echo 'w refused TooLong value 32769 32768
+w refused TooLong bytes 1048739 1048576
+v refused TooLong ops 1001 1000' | diff - "$room/told" >&2
+tell 'limits of a batch' "$?"
+
+head -c 67108865 /dev/zero | tr '\0' '#' >"$room/long"
 fails_with 'file too long' 3 <"$room/long" >"$room/none"
 # A folder can be opened as input, but not read, and this device takes no byte.
 fails_with 'source fault' 4 <examples >>"$room/none"

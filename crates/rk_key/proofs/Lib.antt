@@ -3,3 +3,4 @@ pub mod Equality
 pub mod Parts
 pub mod Places
 pub mod Suffixes
+pub mod TotalOrders

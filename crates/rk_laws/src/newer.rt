@@ -1,5 +1,5 @@
 // One more entry over a key, newer than those before it.
-ghost use Rattle.std.specs.Prelude.{◌≡◌, OnOk};
+ghost use Rattle.std.specs.Prelude.{◌≡◌, ◌<◌, ◌≤◌, OnOk, OnErr, vec_len, vec_capacity};
 ghost use Rattle.std.specs.List.{position};
 ghost use Rattle.std.specs.Ordering.{is_lt};
 ghost use Rattle.rk_key.specs.Keys.{suffix_cmp};
@@ -22,13 +22,15 @@ pub fn point_after_an_entry_is_that_of_the_point_before()
     ensures { PointAfterEntry }
 {}
 
-/// Makes of a cover what it is after one more operation over the key, newer than those that made it.
+/// Makes of a cover what it is after one more operation over the key, newer than those that made it. After an
+/// error the cover is as it was.
 ///
 /// # Errors
 ///
 /// `NoMemory` where the list or the value of a set finds no memory.
 pub fn apply(pairs: &mut Vec<SuffixValue>, op: &Op) -> Result<(), NoMemory>
-    ensures { OnOk result (pairs.new.items ≡ with_entry op.now pairs.old.items) }
+    ensures ok { OnOk result (pairs.new.items ≡ with_entry op.now pairs.old.items) }
+    ensures err { OnErr result (pairs.new.items ≡ pairs.old.items) }
 {
     match op {
         Op::Put { .. } | Op::Del { .. } => {}
@@ -37,8 +39,9 @@ pub fn apply(pairs: &mut Vec<SuffixValue>, op: &Op) -> Result<(), NoMemory>
                 suffix: suffix.copy(),
                 value: value.copy()?,
             };
+            pairs.reserve(1)?;
             remove(pairs, suffix);
-            insert(pairs, pair)?;
+            insert(pairs, pair);
         }
         Op::RangeUnset { suffix, .. } => remove(pairs, suffix),
         Op::RangeDel { .. } => pairs.clear(),
@@ -48,18 +51,20 @@ pub fn apply(pairs: &mut Vec<SuffixValue>, op: &Op) -> Result<(), NoMemory>
 
 /// Removes the pair of a suffix.
 fn remove(pairs: &mut Vec<SuffixValue>, suffix: &Suffix)
-    ensures { pairs.new.items ≡ without suffix.now pairs.old.items }
+    ensures items { pairs.new.items ≡ without suffix.now pairs.old.items }
+    ensures fewer { vec_len pairs.new ≤ vec_len pairs.old }
+    ensures capacity { vec_capacity pairs.new ≡ vec_capacity pairs.old }
 {
     pairs.retain(|q| !suffix.cmp(&q.suffix).is_eq());
 }
 
-/// Puts a pair before the first with a greater suffix.
-fn insert(pairs: &mut Vec<SuffixValue>, pair: SuffixValue) -> Result<(), NoMemory>
-    ensures { OnOk result (pairs.new.items ≡ insert_pair pair pairs.old.items) }
+/// Puts a pair before the first with a greater suffix, where there is room for one more.
+fn insert(pairs: &mut Vec<SuffixValue>, pair: SuffixValue)
+    requires { vec_len pairs.old < vec_capacity pairs.old }
+    ensures { pairs.new.items ≡ insert_pair pair pairs.old.items }
 {
     let at = first_greater(pairs, &pair).unwrap_or(pairs.len());
-    pairs.insert(at, pair)?;
-    Ok(())
+    pairs.insert(at, pair).unwrap();
 }
 
 /// The place of the first pair with a greater suffix.

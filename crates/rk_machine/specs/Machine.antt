@@ -1,5 +1,5 @@
 -- The machine: its state, its events, and its steps.
-use Rattle.std.specs.Prelude.{◌≡◌, ℕ, ◌+◌, ◌==◌, ◌≤◌, not, List, [], ◌∷◌, ◌++◌, length, filter, if◌then◌else◌, Option, Some, None, Contains, IfSome}
+use Rattle.std.specs.Prelude.{◌≡◌, ℕ, ◌+◌, List, [], ◌∷◌, ◌++◌, length, if◌then◌else◌, Option, Some, None, Contains, IfSome}
 use Rattle.std.specs.Option.{option_map_or}
 use Rattle.rk_model.specs.Covers.{upto}
 use Rattle.rk_model.specs.Moves.{Move, View, opened_over, after_move}
@@ -14,7 +14,8 @@ pub record Open : Type 0 where
   pub number : ℕ
   pub view : View
 
--- The state: the commits, the numbers of live snapshots, and the open iterators by their names
+-- The state: the commits, the number of each live snapshot, and the open iterators by their names. A number stands in
+-- `live` once for each of its snapshots.
 pub record State : Type 0 where
   pub history : History
   pub live : List ℕ
@@ -34,20 +35,21 @@ pub data Event : Type 0 where
 
 pub data Reply : Type 0 where
   Committed : (first last : ℕ) → Reply
+  EmptyBatch : Reply
   Number : (number : ℕ) → Reply
   Released : Reply
   Opened : (number : ℕ) → Reply
   Stands : (at : Open) → Reply
   Closed : Reply
 
--- one of a number less
-abbrev pub without : ℕ → List ℕ → List ℕ
-without n [] = []
-without n (m ∷ ms) = if m == n then ms else m ∷ without n ms
+-- the second list is the first without one copy of the number
+abbrev pub TakesOne : ℕ → List ℕ → List ℕ → Type 0
+TakesOne n live live' = (before : List ℕ) × (after : List ℕ) × (live ≡ before ++ n ∷ after) × (live' ≡ before ++ after)
 
--- all that have other names
-abbrev pub closed : List ℕ → List (List ℕ × Open) → List (List ℕ × Open)
-closed name is = filter (λ i. not (same_bytes i.0 name)) is
+-- the list without the first thing of a name
+abbrev pub without_named : {A : Type 0} → List ℕ → List (List ℕ × A) → List (List ℕ × A)
+without_named name [] = []
+without_named name (i ∷ is) = if same_bytes i.0 name then is else i ∷ without_named name is
 
 abbrev pub moved_on : Open → Move → Open
 moved_on it move = record { number = it.number; view = after_move it.view move }
@@ -58,13 +60,13 @@ opened m at options =
     let number = option_map_or (λ n. n) at (last m.history) in
     record { number = number; view = opened_over (upto number (entries m.history)) options }
 
--- an event, its reply, and the state after it; what isn't named stays
+-- An event, its reply, and the state after it; what isn't named stays. A commit without operations is refused.
 abbrev pub Step : State → Event → Reply → State → Type 0
-Step m (Commit ops) reply m' = (1 ≤ length ops)
-    × (reply ≡ Committed (last m.history + 1) (last m.history + length ops))
-    × (m' ≡ record m { history = m.history ++ ops ∷ [] })
-Step m Snap reply m' = (reply ≡ Number (last m.history)) × (m' ≡ record m { live = last m.history ∷ m.live })
-Step m (Release number) reply m' = Contains m.live number × (reply ≡ Released) × (m' ≡ record m { live = without number m.live })
+Step m (Commit []) reply m' = (reply ≡ EmptyBatch) × (m' ≡ m)
+Step m (Commit (op ∷ ops)) reply m' = (reply ≡ Committed (last m.history + 1) (last m.history + length (op ∷ ops)))
+    × (m' ≡ record m { history = m.history ++ (op ∷ ops) ∷ [] })
+Step m Snap reply m' = (reply ≡ Number (last m.history)) × (m' ≡ record m { live = m.live ++ last m.history ∷ [] })
+Step m (Release number) reply m' = TakesOne number m.live m'.live × (reply ≡ Released) × (m' ≡ record m { live = m'.live })
 Step m (OpenAt name at options) reply m' = (named name m.iterators ≡ None)
     × IfSome at (Contains m.live)
     × (reply ≡ Opened (opened m at options).number)
@@ -76,7 +78,7 @@ Step m (Moves name move) reply m' = (it : Open)
 Step m (Close name) reply m' = (it : Open)
     × (named name m.iterators ≡ Some it)
     × (reply ≡ Closed)
-    × (m' ≡ record m { iterators = closed name m.iterators })
+    × (m' ≡ record m { iterators = without_named name m.iterators })
 
 -- a run: the states in between stand beside the events and replies
 abbrev pub Run : State → List Event → List Reply → List State → Type 0

@@ -4,6 +4,8 @@ pub mod Filters
 pub mod Lasts
 pub mod Orders
 pub mod Pairs
+pub mod Readings
+pub mod Searches
 pub mod Points
 pub mod Positions
 pub mod Seeks

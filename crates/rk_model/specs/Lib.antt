@@ -7,3 +7,5 @@ pub mod Moves
 pub mod Kept
 pub mod Named
 pub mod Plain
+pub mod Sources
+pub mod SourceLaws

@@ -5,17 +5,31 @@
 //! of an operation, an entry or a span equals it. [`Plain`] is an iterator that computes the definitions as
 //! they stand, over any entries and options: its moves answer exactly what `after_move` says, and where
 //! memory ends it stays as it was.
+//!
+//! [`PointSource`] and [`SpanSource`] are what a chunk, a table, a level and a merge are to the crates above: a
+//! sorted list and a place in it. [`ListPoints`] and [`ListSpans`] are sources over lists in memory.
 #![tactic(auto)]
 
+mod both_ways;
 mod copies;
 mod cursor;
+mod list_source;
 mod op;
 mod options;
+mod places;
 mod plain;
+mod source;
 mod span;
 
+pub use both_ways::{points_before, points_from};
 pub use cursor::Cursor;
+pub use list_source::{ListPoints, ListSpans};
 pub use op::{Entry, Op};
 pub use options::IterOptions;
+pub use places::{before_cut, behind_cut, point_ge, point_lt, span_ge, span_lt};
 pub use plain::Plain;
+pub use source::{PointList, PointSource, SpanList, SpanSource};
 pub use span::{RangeKey, RangeKeys, RangeKind, Span, SuffixValue};
+
+#[cfg(test)]
+mod source_tests;

@@ -1,43 +1,204 @@
--- The batches of writers, where one of them changes.
-use Rattle.std.proofs.Common.{◌≡◌, ℕ, false, List, [], ◌∷◌, ◌++◌, map, set, get_or, ap, sym, ◌∙◌}
-use Rattle.std.specs.Prelude.{unwrap_or}
+-- Lines on batches, and commits: what they do to a session, and to the state that it stands for.
+use Rattle.std.proofs.Common.{◌≡◌, ℕ, ◌+◌, ◌≤◌, false, List, [], ◌∷◌, ◌++◌, map, length, set, get_or, Option, Some, None, arith, ap, sym, ◌∙◌, refl, subst, length-append, inl, inr, ⊎_elim}
+use Rattle.std.proofs.Math.Nat.{le_trans}
+use Rattle.std.proofs.Math.Seq.{get_or-append_seam, set-append_seam}
+use Rattle.std.specs.Option.{option_map}
+use Rattle.std.specs.Prelude.{◌≢◌, unwrap_or, IfSome, Ok, Err}
 use Rattle.rk_model.specs.Named.{named, with_named}
+use Rattle.rk_model.specs.Operations.{entries, last, numbered}
+use Rattle.rk_model.specs.declared.op.Entry.{Entry}
 use Rattle.rk_model.specs.declared.op.Op.{Op}
-use Rattle.rk_program.specs.Standing.{batches, with_op, is_called}
+use Rattle.rk_batch.specs.Checks.{Check, AllPass, IsRefusal, checks}
+use Rattle.rk_batch.specs.Checks.{IsFirst as IsFirstOf}
+use Rattle.rk_batch.specs.declared.error.BatchError.{BatchError}
+use Rattle.rk_batch.specs.declared.error.BatchError.TheVariants.{Memory}
+use Rattle.rk_machine.specs.Machine.{State, Commit as commits, Committed, EmptyBatch, Step}
+use Rattle.rk_script.specs.Naming.{is_called}
+use Rattle.rk_script.specs.declared.line.Event.{Event}
+use Rattle.rk_script.specs.declared.line.Event.TheVariants.{Put, Del, RangeSet, RangeUnset, RangeDel}
+use Rattle.rk_program.specs.Replies.{reply_text, refused_text}
+use Rattle.rk_program.specs.Standing.{StandsFor, IsPlaceOf, IsGiven, batches, numbers, opens}
+use Rattle.rk_program.specs.Transcript.{SessionState, with_batch, batch_of, op_of, move_of, Does, DoesOther, DoesCommit}
+use Rattle.rk_program.specs.declared.session.Session.{Session}
 use Rattle.rk_program.specs.declared.session.Writer.{Writer}
 use Rattle.rk_program.proofs.NameLemmas.{map-snoc}
 use Rattle.rk_program.proofs.Naming.{IsFirst, IsFirst-named, IsFirst-set, named-absent, with_named-absent}
+use Rattle.rk_program.proofs.SessionLemmas.{length-numbered, length-entries, entries-one_more}
 
 abbrev pub writer_name : Writer → List ℕ
 writer_name w = w.name
 
-abbrev pub writer_ops : Writer → List Op
-writer_ops w = w.ops.items
+abbrev pub writer_batch : Writer → List Op
+writer_batch w = w.batch
 
--- a writer's batch is that of the first writer of its name
-pub batch-found : (ws : List Writer) (name : List ℕ) (i : ℕ) (w : Writer) → IsFirst writer_name ws name i → w ≡ get_or ws i w
-    → unwrap_or (named name (batches ws)) [] ≡ w.ops.items
-batch-found ws name i w first is =
-    ap (λ found. unwrap_or found []) (IsFirst-named writer_name writer_ops ws name i w first) ∙ ap writer_ops (sym is)
+-- The place of a writer.
 
-pub batches-set : (ws : List Writer) (name : List ℕ) (i : ℕ) (w y : Writer) (ops : List Op) → IsFirst writer_name ws name i → w ≡ get_or ws i w
-    → y.name ≡ w.name → y.ops.items ≡ ops → batches (set ws i y) ≡ with_named name ops (batches ws)
-batches-set ws name i w y ops first is same_name same_ops =
-    let called : y.name ≡ name = same_name ∙ (ap writer_name is ∙ first.here w) in
-    IsFirst-set writer_name writer_ops ws name i y first called ∙ ap (λ xs. with_named name xs (batches ws)) same_ops
+pub IsPlaceOf-found : (ws : List Writer) (name : List ℕ) (i : ℕ) → IsFirst writer_name ws name i → IsPlaceOf ws ws name i
+IsPlaceOf-found ws name i first = record {
+  within = first.within;
+  called = first.here;
+  batch = λ d. sym (ap (λ found. unwrap_or found []) (IsFirst-named writer_name writer_batch ws name i d first));
+  put = λ w same. IsFirst-set writer_name writer_batch ws name i w first same;
+}
 
-pub with_op-found : (ws : List Writer) (name : List ℕ) (i : ℕ) (w y : Writer) (op : Op) → IsFirst writer_name ws name i → w ≡ get_or ws i w
-    → y.name ≡ w.name → y.ops.items ≡ w.ops.items ++ op ∷ [] → batches (set ws i y) ≡ with_op name op (batches ws)
-with_op-found ws name i w y op first is same_name more =
-    batches-set ws name i w y (w.ops.items ++ op ∷ []) first is same_name more
-    ∙ ap (λ xs. with_named name (xs ++ op ∷ []) (batches ws)) (sym (batch-found ws name i w first is))
+at_end : (ws : List Writer) (name : List ℕ) (w : Writer) → is_called name (map writer_name ws) ≡ false → w.name ≡ name → w.batch ≡ []
+    → IsPlaceOf ws (ws ++ w ∷ []) name (length ws)
+at_end ws name w absent called empty = record {
+  within = omega (arith, length-append ws (w ∷ []));
+  called = λ d. ap writer_name (get_or-append_seam ws w [] d) ∙ called;
+  batch = λ d. ap writer_batch (get_or-append_seam ws w [] d) ∙ (empty
+      ∙ ap (λ found. unwrap_or found []) (sym (named-absent writer_name writer_batch name ws absent)));
+  put = λ y same. ap batches (set-append_seam ws w [] y) ∙ (map-snoc (λ x. (writer_name x, writer_batch x)) ws y
+      ∙ (ap (λ n. batches ws ++ (n, y.batch) ∷ []) same ∙ sym (with_named-absent writer_name writer_batch name y.batch ws absent)));
+}
 
-pub with_op-absent : (ws : List Writer) (name : List ℕ) (y : Writer) (op : Op) → is_called name (map writer_name ws) ≡ false
-    → y.name ≡ name → y.ops.items ≡ op ∷ [] → batches (ws ++ y ∷ []) ≡ with_op name op (batches ws)
-with_op-absent ws name y op absent same_name one =
-    let none = named-absent writer_name writer_ops name ws absent in
-    map-snoc (λ w. (w.name, w.ops.items)) ws y
-    ∙ (ap (λ n. batches ws ++ (n, y.ops.items) ∷ []) same_name
-    ∙ (ap (λ os. batches ws ++ (name, os) ∷ []) one
-    ∙ (sym (with_named-absent writer_name writer_ops name (op ∷ []) ws absent)
-    ∙ ap (λ found. with_named name (unwrap_or found [] ++ op ∷ []) (batches ws)) (sym none))))
+pub IsPlaceOf-new : (ws new : List Writer) (name : List ℕ) (w : Writer) (i : ℕ) → is_called name (map writer_name ws) ≡ false
+    → w.name ≡ name → w.batch ≡ [] → new ≡ ws ++ w ∷ [] → i ≡ length ws → IsPlaceOf ws new name i
+IsPlaceOf-new ws new name w i absent called empty more is = rw (more, is) (at_end ws name w absent called empty)
+
+-- A line that gives an operation to a batch.
+
+pub op_there : (found : Option (List ℕ × Op)) (w : List ℕ) → option_map (λ o. o.0) found ≡ Some w → (o : Op) × (found ≡ Some (w, o))
+op_there None w h = cc
+op_there (Some o) w h = let same : o.0 ≡ w = cc in (o.1, ap (λ n. Some (n, o.1)) same)
+
+pub op_does : (s : SessionState) (event : Event) (o : List ℕ × Op) (text : List ℕ) (t : SessionState) → op_of event ≡ Some o
+    → DoesOther s (op_of event) (move_of event) text t → Does s event text t
+op_does s (Put writer key value) o text t h d = d
+op_does s (Del writer key) o text t h d = d
+op_does s (RangeSet writer start end suffix value) o text t h d = d
+op_does s (RangeUnset writer start end suffix) o text t h d = d
+op_does s (RangeDel writer start end) o text t h d = d
+op_does s other o text t h d = cc
+
+pub stands_with_batch : (old new : Session) (w : List ℕ) (ops : List Op) (s : SessionState) → StandsFor old s
+    → new.entries.items ≡ old.entries.items → new.snapshots.items ≡ old.snapshots.items → new.iterators.items ≡ old.iterators.items
+    → batches new.writers.items ≡ with_named w ops (batches old.writers.items)
+    → StandsFor new (with_batch w ops s)
+stands_with_batch old new w ops s stands same_entries same_snapshots same_iterators put = record {
+  entries_are = same_entries ∙ stands.entries_are;
+  batches_are = put ∙ ap (with_named w ops) stands.batches_are;
+  snapshots_are = ap numbers same_snapshots ∙ stands.snapshots_are;
+  live_are = stands.live_are;
+  iterators_are = ap opens same_iterators ∙ stands.iterators_are;
+  within = rw (same_entries, same_snapshots) stands.within;
+}
+
+pub added_does : {T : Type 0} (u : T) (old new : Session) (event : Event) (w : List ℕ) (mid : List Writer) (i : ℕ) (x y : Writer) (text : List ℕ) (s : SessionState)
+    → StandsFor old s → option_map (λ o. o.0) (op_of event) ≡ Some w
+    → IsPlaceOf old.writers.items mid w i → x ≡ get_or mid i x → y.name ≡ x.name
+    → IfSome (op_of event) (λ o. IsGiven {T = T} x.batch y.batch o.1 (Ok u))
+    → new.entries.items ≡ old.entries.items → new.snapshots.items ≡ old.snapshots.items → new.iterators.items ≡ old.iterators.items
+    → new.writers.items ≡ set mid i y → text ≡ []
+    → (t : SessionState) × Does s event text t × StandsFor new t
+added_does {T = T} u old new event w mid i x y text s stands asked place is same_name gave same_entries same_snapshots same_iterators put said =
+    let o = op_there (op_of event) w asked in
+    let Q : Option (List ℕ × Op) → Type 0 = λ found. IfSome found (λ p. IsGiven {T = T} x.batch y.batch p.1 (Ok u)) in
+    let given = subst Q o.1 gave in
+    let is_batch : x.batch ≡ batch_of w s = ap writer_batch is ∙ (place.batch x ∙ ap (λ bs. unwrap_or (named w bs) []) stands.batches_are) in
+    let called : y.name ≡ w = same_name ∙ (ap writer_name is ∙ place.called x) in
+    let P : List Op → Type 0 = λ ops. AllPass (checks ops o.0) in
+    let passes : AllPass (checks (batch_of w s) o.0) = subst P is_batch given.passes in
+    let t : SessionState = with_batch w (batch_of w s ++ o.0 ∷ []) s in
+    let R : Option (List ℕ × Op) → Type 0 = λ found. DoesOther s found (move_of event) text t in (
+      t,
+      op_does s event (w, o.0) text t o.1 (subst R (sym o.1) (inl (passes, said, refl))),
+      stands_with_batch old new w (batch_of w s ++ o.0 ∷ []) s stands same_entries same_snapshots same_iterators
+          (ap batches put ∙ (place.put y called ∙ ap (λ b. with_named w b (batches old.writers.items)) (given.added ∙ ap (λ b. b ++ o.0 ∷ []) is_batch))),
+    )
+
+the_first : (ops : List Check) (e : BatchError) → IsRefusal ops e → e ≢ Memory → IsFirstOf ops e
+the_first ops e refusal other = ⊎_elim (λ (h : e ≡ Memory). absurd (other h)) (λ (h : IsFirstOf ops e). h) refusal
+
+pub refused_op_does : (T : Type 0) (old new : Session) (event : Event) (w : List ℕ) (mid : List Writer) (i : ℕ) (x y : Writer) (e : BatchError) (name text : List ℕ) (s : SessionState)
+    → StandsFor old s → option_map (λ o. o.0) (op_of event) ≡ Some w
+    → IsPlaceOf old.writers.items mid w i → x ≡ get_or mid i x → y.name ≡ x.name
+    → IfSome (op_of event) (λ o. IsGiven {T = T} x.batch y.batch o.1 (Err e))
+    → new.entries.items ≡ old.entries.items → new.snapshots.items ≡ old.snapshots.items → new.iterators.items ≡ old.iterators.items
+    → new.writers.items ≡ set mid i y → e ≢ Memory → name ≡ w → text ≡ refused_text name e
+    → (t : SessionState) × Does s event text t × StandsFor new t
+refused_op_does T old new event w mid i x y e name text s stands asked place is same_name gave same_entries same_snapshots same_iterators put other named_so said =
+    let o = op_there (op_of event) w asked in
+    let Q : Option (List ℕ × Op) → Type 0 = λ found. IfSome found (λ p. IsGiven {T = T} x.batch y.batch p.1 (Err e)) in
+    let given = subst Q o.1 gave in
+    let is_batch : x.batch ≡ batch_of w s = ap writer_batch is ∙ (place.batch x ∙ ap (λ bs. unwrap_or (named w bs) []) stands.batches_are) in
+    let called : y.name ≡ w = same_name ∙ (ap writer_name is ∙ place.called x) in
+    let P : List Op → Type 0 = λ ops. IsFirstOf (checks ops o.0) e in
+    let first : IsFirstOf (checks (batch_of w s) o.0) e = subst P is_batch (the_first (checks x.batch o.0) e given.refusal other) in
+    let t : SessionState = with_batch w (batch_of w s) s in
+    let R : Option (List ℕ × Op) → Type 0 = λ found. DoesOther s found (move_of event) text t in (
+      t,
+      op_does s event (w, o.0) text t o.1 (subst R (sym o.1) (inr (e, first, said ∙ ap (λ n. refused_text n e) named_so, refl))),
+      stands_with_batch old new w (batch_of w s) s stands same_entries same_snapshots same_iterators
+          (ap batches put ∙ (place.put y called ∙ ap (λ b. with_named w b (batches old.writers.items)) (given.same ∙ is_batch))),
+    )
+
+-- Commits.
+
+pub refused_does : (old new : Session) (w : List ℕ) (ops : List Op) (text : List ℕ) (s : SessionState) → StandsFor old s
+    → new.entries.items ≡ old.entries.items → new.snapshots.items ≡ old.snapshots.items → new.iterators.items ≡ old.iterators.items
+    → batches new.writers.items ≡ with_named w ops (batches old.writers.items)
+    → ops ≡ unwrap_or (named w (batches old.writers.items)) [] → length ops ≡ 0
+    → text ≡ reply_text w EmptyBatch
+    → (t : SessionState) × DoesCommit s w text t × StandsFor new t
+refused_does old new w ops text s stands same_entries same_snapshots same_iterators put is none said =
+    let same : ops ≡ batch_of w s = is ∙ ap (λ bs. unwrap_or (named w bs) []) stands.batches_are in
+    let P : List Op → Type 0 = λ os. Step s.state (commits os) EmptyBatch s.state in
+    let step : P (batch_of w s) = subst P (sym (no_items ops none) ∙ same) (refl, refl) in (
+      with_batch w ops s,
+      (EmptyBatch, step, said, ap (λ os. with_named w os s.batches) same, refl),
+      stands_with_batch old new w ops s stands same_entries same_snapshots same_iterators put,
+    ) where
+      no_items : (ops : List Op) → length ops ≡ 0 → ops ≡ []
+      no_items [] h = refl
+      no_items (op ∷ ops) h = absurd (omega arith)
+
+step_commit : (m : State) (ops : List Op) → 1 ≤ length ops
+    → Step m (commits ops) (Committed (last m.history + 1) (last m.history + length ops)) (record m { history = m.history ++ ops ∷ [] })
+step_commit m [] some = absurd (omega arith)
+step_commit m (op ∷ ops) some = (refl, refl)
+
+pub commit_does : (old new : Session) (w : List ℕ) (batch : List Op) (text : List ℕ) (s : SessionState) → StandsFor old s
+    → batch ≡ unwrap_or (named w (batches old.writers.items)) [] → 1 ≤ length batch
+    → new.entries.items ≡ old.entries.items ++ numbered (length old.entries.items + 1) batch
+    → batches new.writers.items ≡ with_named w [] (batches old.writers.items)
+    → new.snapshots.items ≡ old.snapshots.items → new.iterators.items ≡ old.iterators.items
+    → text ≡ reply_text w (Committed (length old.entries.items + 1) (length old.entries.items + length batch))
+    → (t : SessionState) × DoesCommit s w text t × StandsFor new t
+commit_does old new w batch text s stands is some more cleared same_snapshots same_iterators said =
+    let h = s.state.history in
+    let same : batch_of w s ≡ batch = sym (is ∙ ap (λ bs. unwrap_or (named w bs) []) stands.batches_are) in
+    let len : length old.entries.items ≡ last h = ap length stands.entries_are ∙ length-entries h in
+    let longer : length old.entries.items ≤ length new.entries.items =
+    omega (arith, ap length more, length-append old.entries.items (numbered (length old.entries.items + 1) batch)) in (
+      record { state = record s.state { history = h ++ batch_of w s ∷ [] }; batches = with_named w [] s.batches; snapshots = s.snapshots },
+      (
+        Committed (last h + 1) (last h + length (batch_of w s)),
+        step_commit s.state (batch_of w s) (omega (arith, ap length same)),
+        said ∙ (ap (λ n. reply_text w (Committed (n + 1) (n + length batch))) len
+            ∙ ap (λ ops. reply_text w (Committed (last h + 1) (last h + length ops))) (sym same)),
+        refl,
+        refl,
+      ),
+      record {
+        entries_are = more ∙ (ap (λ es. es ++ numbered (length es + 1) batch) stands.entries_are
+            ∙ (ap (λ n. entries h ++ numbered (n + 1) batch) (length-entries h)
+            ∙ (ap (λ ops. entries h ++ numbered (last h + 1) ops) (sym same)
+            ∙ sym (entries-one_more h (batch_of w s)))));
+        batches_are = cleared ∙ ap (with_named w []) stands.batches_are;
+        snapshots_are = ap numbers same_snapshots ∙ stands.snapshots_are;
+        live_are = stands.live_are;
+        iterators_are = ap opens same_iterators ∙ stands.iterators_are;
+        within = rw same_snapshots (λ k d lt. le_trans (stands.within k d lt) longer);
+      },
+    )
+
+-- the numbers that the reply to a commit tells
+pub said_committed : (w name : List ℕ) (first last : ℕ) (old new : List Entry) (batch : List Op) (text : List ℕ)
+    → text ≡ reply_text name (Committed first last) → name ≡ w → first ≡ length old + 1 → last ≡ length new → new ≡ old ++ numbered (length old + 1) batch
+    → text ≡ reply_text w (Committed (length old + 1) (length old + length batch))
+said_committed w name first last old new batch text said same first_is last_is more =
+    let whole : last ≡ length old + length batch =
+    last_is ∙ (ap length more ∙ (length-append old (numbered (length old + 1) batch) ∙ ap (λ n. length old + n) (length-numbered (length old + 1) batch))) in
+    said ∙ (ap (λ n. reply_text n (Committed first last)) same
+    ∙ (ap (λ n. reply_text w (Committed n last)) first_is ∙ ap (λ n. reply_text w (Committed (length old + 1) n)) whole))

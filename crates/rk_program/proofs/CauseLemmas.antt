@@ -1,18 +1,13 @@
--- A cause with a count that rose in a part of a call is one of the whole call.
-use Rattle.std.proofs.Common.{ℕ, ◌≤◌, List, Option, arith}
+-- A failure of a part of a call is one of the whole call.
+use Rattle.std.proofs.Common.{ℕ, ◌≤◌, arith}
 use Rattle.rk_outside.specs.Causes.{Rose}
-use Rattle.rk_program.specs.Input.{IsInputEnd, IsReadFailure}
-use Rattle.rk_program.specs.declared.cause.Cause.{Cause}
-use Rattle.rk_program.specs.declared.cause.Cause.TheVariants.{Done, Words, Line, Length, SourceFault, SinkFault, Memory}
+use Rattle.rk_program.specs.Input.{IsFailure}
+use Rattle.rk_program.specs.declared.failure.Failure.{Failure}
+use Rattle.rk_program.specs.declared.failure.Failure.TheVariants.{Memory, Fault}
 
-pub Rose-earlier : (first between now : ℕ) → first ≤ between → Rose between now → Rose first now
+Rose-earlier : (first between now : ℕ) → first ≤ between → Rose between now → Rose first now
 Rose-earlier first between now later rose = omega arith
 
-pub IsReadFailure-whole : (a b : Option (List ℕ)) (first between now : ℕ) (cause : Cause) → first ≤ between → IsReadFailure between now cause → IsInputEnd a b first now cause
-IsReadFailure-whole a b first between now Done later h = h
-IsReadFailure-whole a b first between now Words later h = h
-IsReadFailure-whole a b first between now (Line line why) later h = h
-IsReadFailure-whole a b first between now (Length limit) later h = absurd h
-IsReadFailure-whole a b first between now (SourceFault faults) later h = (Rose-earlier first between now later h.0, h.1)
-IsReadFailure-whole a b first between now (SinkFault faults) later h = h
-IsReadFailure-whole a b first between now Memory later h = h
+pub IsFailure-whole : (first between now : ℕ) (failure : Failure) → first ≤ between → IsFailure between now failure → IsFailure first now failure
+IsFailure-whole first between now Memory later h = h
+IsFailure-whole first between now (Fault faults) later h = (Rose-earlier first between now later h.0, h.1)

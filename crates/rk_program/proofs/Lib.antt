@@ -1,6 +1,8 @@
+pub mod Accepted
 pub mod BatchLemmas
 pub mod CauseLemmas
 pub mod EndLemmas
+mod Examples
 pub mod LineLemmas
 pub mod NameLemmas
 pub mod Naming

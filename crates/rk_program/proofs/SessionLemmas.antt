@@ -1,6 +1,7 @@
 -- Commits and openings: what they do to the entries and to the machine.
-use Rattle.std.proofs.Common.{◌≡◌, ℕ, ◌+◌, ◌≤◌, true, List, [], ◌∷◌, ◌++◌, length, arith, ap, sym, ◌∙◌, refl, append_assoc, append-nil, length-append}
-use Rattle.std.proofs.lemmas.Bool.{le-leb}
+use Rattle.std.proofs.Common.{◌≡◌, ℕ, ◌+◌, ◌<◌, true, false, zero, suc, take, get_or, add-one, List, [], ◌∷◌, ◌++◌, length, arith, ap, sym, ◌∙◌, refl, append_assoc, append-nil, length-append}
+use Rattle.std.proofs.Math.Seq.{take-suc}
+use Rattle.std.proofs.lemmas.Bool.{le-leb, lt-leb}
 use Rattle.std.specs.Prelude.{nat_le}
 use Rattle.rk_model.specs.Covers.{upto}
 use Rattle.rk_model.specs.Operations.{History, operations, numbered, entries, last}
@@ -33,16 +34,23 @@ entries-one_more h ops =
 pub numbered-one_more : (n : ℕ) (ops : List Op) (op : Op) → numbered n (ops ++ op ∷ []) ≡ numbered n ops ++ record { op = op; seq = n + length ops } ∷ []
 numbered-one_more n ops op = numbered-append n ops (op ∷ [])
 
-below_all : (n k : ℕ) (ops : List Op) → k + length ops ≤ n + 1 → upto n (numbered k ops) ≡ numbered k ops
-below_all n k [] within = refl
-below_all n k (op ∷ ops) within =
-    let here : nat_le k n ≡ true = le-leb k n (omega arith) in
-    let later : k + 1 + length ops ≤ n + 1 = omega arith in
-    rw here (ap (λ es. record { op = op; seq = k } ∷ es) (below_all n (k + 1) ops later))
+none_upto : (m k : ℕ) (ops : List Op) → m < k → upto m (numbered k ops) ≡ []
+none_upto m k [] below = refl
+none_upto m k (op ∷ ops) below =
+    let here : nat_le k m ≡ false = lt-leb k m below in
+    rw here (none_upto m (k + 1) ops (omega arith))
 
--- the entries up to the last number are all of them
-pub upto-last : (h : History) → upto (last h) (entries h) ≡ entries h
-upto-last h = below_all (last h) 1 (operations h) (omega arith)
+-- among entries with consecutive numbers, those up to a number are some first ones
+upto_from : (n m k : ℕ) (ops : List Op) → m ≡ n + k → upto m (numbered (k + 1) ops) ≡ take n (numbered (k + 1) ops)
+upto_from zero m k ops is = none_upto m (k + 1) ops (omega arith)
+upto_from (suc n) m k [] is = refl
+upto_from (suc n) m k (op ∷ ops) is =
+    let here : nat_le (k + 1) m ≡ true = le-leb (k + 1) m (omega arith) in
+    rw here (ap (λ es. record { op = op; seq = k + 1 } ∷ es) (upto_from n m (k + 1) ops (omega arith)))
+
+-- the entries up to a number are so many of the first
+pub upto-take : (n : ℕ) (h : History) → upto n (entries h) ≡ take n (entries h)
+upto-take n h = upto_from n n 0 (operations h) (omega arith)
 
 -- an entry more, with the next number
 pub append_step : (front all : List Entry) (ops : List Op) (op : Op) (seq : ℕ) → all ≡ front ++ numbered (length front + 1) ops → seq ≡ length all + 1
@@ -52,3 +60,13 @@ append_step front all ops op seq so_far next =
     ap length so_far ∙ (length-append front (numbered (length front + 1) ops) ∙ ap (λ n. length front + n) (length-numbered (length front + 1) ops)) in
     let same : seq ≡ length front + 1 + length ops = omega (arith, next, len) in
     rw (numbered-one_more (length front + 1) ops op, same, so_far) (append_assoc front (numbered (length front + 1) ops) (record { op = op; seq = length front + 1 + length ops } ∷ []))
+
+-- the operation at an index is an entry too
+pub append_more : (front all now : List Entry) (ops : List Op) (i : ℕ) (item op : Op) (seq : ℕ)
+    → all ≡ front ++ numbered (length front + 1) (take i ops) → seq ≡ length all + 1 → i < length ops → item ≡ get_or ops i item → op ≡ item
+    → now ≡ all ++ record { op = op; seq = seq } ∷ [] → now ≡ front ++ numbered (length front + 1) (take (i + 1) ops)
+append_more front all now ops i item op seq so_far next within is same more =
+    let longer : take (i + 1) ops ≡ take i ops ++ item ∷ [] =
+    rw (add-one, take-suc ops i item within) (ap (λ o. take i ops ++ o ∷ []) (sym is)) in
+    more ∙ (append_step front all (take i ops) op seq so_far next
+    ∙ ap (λ os. front ++ numbered (length front + 1) os) (ap (λ o. take i ops ++ o ∷ []) same ∙ sym longer))

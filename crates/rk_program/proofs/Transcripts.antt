@@ -3,6 +3,7 @@ use Rattle.std.proofs.Common.{◌≡◌, ℕ, ◌+◌, List, [], ◌∷◌, ◌+
 use Rattle.std.proofs.Math.Seq.{take-length, take-suc, drop-cons}
 use Rattle.std.proofs.KnownBytes.{Appends-nil, Appends-trans, Appends-kept}
 use Rattle.std.specs.Io.KnownBytes.{Appends, Keeps}
+use Rattle.std.specs.Prelude.{Result, Ok, Err, OnOk, OnErr}
 use Rattle.rk_outside.specs.Sinks.{AppendsPrefix}
 use Rattle.rk_script.specs.declared.line.Line.{Line}
 use Rattle.rk_program.specs.Transcript.{SessionState, begin, Does, IsTranscript, AreAccepted, names_of}
@@ -78,3 +79,12 @@ next_line lines i line within is = (
   rw (add-one, drop-cons lines i line within) (ap (λ l. l ∷ drop (suc i) lines) (sym is)),
   rw (add-one, take-suc lines i line within) (ap (λ l. take i lines ++ l ∷ []) (sym is)),
 )
+
+-- a fact that holds whatever the answer is
+pub on_ok : {T E : Type 0} (P : Type 0) (result : Result T E) → P → OnOk result P
+on_ok P (Ok x) p = p
+on_ok P (Err e) p = tt
+
+pub on_err : {T E : Type 0} (P : Type 0) (result : Result T E) → P → OnErr result P
+on_err P (Ok x) p = tt
+on_err P (Err e) p = p

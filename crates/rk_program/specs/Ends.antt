@@ -12,6 +12,8 @@ use Rattle.rk_program.specs.Input.{most_file_bytes, GaveAll, GaveTooMany, IsFaul
 use Rattle.rk_program.specs.Transcript.{SessionState, begin, IsTranscript}
 use Rattle.rk_program.specs.declared.cause.Cause.{Cause}
 use Rattle.rk_program.specs.declared.cause.Cause.TheVariants as cause
+use Rattle.rk_program.specs.declared.failure.NoFile.{NoFile}
+use Rattle.rk_program.specs.declared.failure.NoFile.TheVariants as no_file
 
 abbrev pub status_of : Cause → ℕ
 status_of cause.Done = 0
@@ -100,15 +102,12 @@ abbrev pub DidPart : (left_before left_now written_before written_now : Option (
 DidPart left_before left_now written_before written_now =
     (lines : List Line) × GaveLines left_before left_now lines × WrotePart written_before written_now lines
 
--- why no file was read: what each cause tells
-abbrev pub IsNoFile : (left_before left_now : Option (List ℕ)) → (count_before count_now : ℕ) → Cause → Type 0
-IsNoFile left_before left_now count_before count_now cause.Done = ⊥
-IsNoFile left_before left_now count_before count_now cause.Words = ⊥
-IsNoFile left_before left_now count_before count_now (cause.Line line why) = GaveBadLine left_before left_now line why
-IsNoFile left_before left_now count_before count_now (cause.Length limit) = (limit ≡ most_file_bytes) × GaveTooMany left_before left_now
-IsNoFile left_before left_now count_before count_now (cause.SourceFault faults) = IsFault count_before count_now faults
-IsNoFile left_before left_now count_before count_now (cause.SinkFault faults) = ⊥
-IsNoFile left_before left_now count_before count_now cause.Memory = ⊤
+-- why no file was read
+abbrev pub IsNoFile : (left_before left_now : Option (List ℕ)) → (count_before count_now : ℕ) → NoFile → Type 0
+IsNoFile left_before left_now count_before count_now no_file.Memory = ⊤
+IsNoFile left_before left_now count_before count_now (no_file.Fault faults) = IsFault count_before count_now faults
+IsNoFile left_before left_now count_before count_now no_file.TooLong = GaveTooMany left_before left_now
+IsNoFile left_before left_now count_before count_now (no_file.BadLine line why) = GaveBadLine left_before left_now line why
 
 -- what each end of a run tells
 abbrev pub IsEnd : (left_before left_now written_before written_now : Option (List ℕ)) → (source_before source_now sink_before sink_now : ℕ) → Cause → Type 0

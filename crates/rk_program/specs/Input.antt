@@ -1,13 +1,13 @@
--- What the program takes of a source.
+-- What the program takes of a source, and why it fails.
 use Rattle.std.specs.Prelude.{◌≡◌, ℕ, ◌<◌, ◌≤◌, List, length, Option, ⊤}
 use Rattle.std.specs.Io.KnownBytes.{Consumes, IsAtEnd}
 use Rattle.rk_outside.specs.Causes.{Rose}
-use Rattle.rk_program.specs.declared.cause.Cause.{Cause}
-use Rattle.rk_program.specs.declared.cause.Cause.TheVariants.{Done, Words, Line, Length, SourceFault, SinkFault, Memory}
+use Rattle.rk_program.specs.declared.failure.Failure.{Failure}
+use Rattle.rk_program.specs.declared.failure.Failure.TheVariants.{Memory, Fault}
 
 -- the most bytes of a command file
 abbrev pub most_file_bytes : ℕ
-most_file_bytes = 1048576
+most_file_bytes = 67108864
 
 -- the source gave these bytes, and then its end
 pub record GaveAll (before now : Option (List ℕ)) (file : List ℕ) : Type 0 where
@@ -19,26 +19,16 @@ pub record GaveAll (before now : Option (List ℕ)) (file : List ℕ) : Type 0 w
 abbrev pub GaveTooMany : Option (List ℕ) → Option (List ℕ) → Type 0
 GaveTooMany before now = (file : List ℕ) × Consumes before now file × (most_file_bytes < length file)
 
+-- the source gave these bytes, and then its end, unless they are more than a file may have
+pub record Gave (before now : Option (List ℕ)) (file : List ℕ) : Type 0 where
+  pub bytes : Consumes before now file
+  pub at_end : length file ≤ most_file_bytes → IsAtEnd now
+
 -- a fault's number is the count as it is now, which rose
 abbrev pub IsFault : ℕ → ℕ → ℕ → Type 0
 IsFault before now faults = Rose before now × (faults ≡ now)
 
--- why a source was not read whole: it gave too much, it failed, or there was no memory
-abbrev pub IsInputEnd : Option (List ℕ) → Option (List ℕ) → ℕ → ℕ → Cause → Type 0
-IsInputEnd before now count_before count_now Done = ⊥
-IsInputEnd before now count_before count_now Words = ⊥
-IsInputEnd before now count_before count_now (Line line why) = ⊥
-IsInputEnd before now count_before count_now (Length limit) = (limit ≡ most_file_bytes) × GaveTooMany before now
-IsInputEnd before now count_before count_now (SourceFault faults) = IsFault count_before count_now faults
-IsInputEnd before now count_before count_now (SinkFault faults) = ⊥
-IsInputEnd before now count_before count_now Memory = ⊤
-
--- why a piece was not read: the source failed, or there was no memory
-abbrev pub IsReadFailure : ℕ → ℕ → Cause → Type 0
-IsReadFailure count_before count_now Done = ⊥
-IsReadFailure count_before count_now Words = ⊥
-IsReadFailure count_before count_now (Line line why) = ⊥
-IsReadFailure count_before count_now (Length limit) = ⊥
-IsReadFailure count_before count_now (SourceFault faults) = IsFault count_before count_now faults
-IsReadFailure count_before count_now (SinkFault faults) = ⊥
-IsReadFailure count_before count_now Memory = ⊤
+-- why a source or a sink was not gone through: it failed, or there was no memory
+abbrev pub IsFailure : ℕ → ℕ → Failure → Type 0
+IsFailure before now Memory = ⊤
+IsFailure before now (Fault faults) = IsFault before now faults

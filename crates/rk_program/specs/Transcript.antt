@@ -1,47 +1,113 @@
 -- What the lines of a command file do, one after the other, and what is written for them.
-use Rattle.std.specs.Prelude.{◌≡◌, ℕ, List, [], ◌∷◌, ◌++◌, length, map, unwrap_or, None, IsTrue}
-use Rattle.rk_model.specs.Moves.{First as move_first, Next as move_next}
+use Rattle.std.specs.Prelude.{◌≡◌, ℕ, ◌⊎◌, List, [], ◌∷◌, ◌++◌, map, unwrap_or, Option, Some, None, IsSome, IsTrue}
+use Rattle.rk_model.specs.Moves.{Move}
+use Rattle.rk_model.specs.Moves as move
 use Rattle.rk_model.specs.Named.{named, with_named}
+use Rattle.rk_model.specs.Operations.{last}
 use Rattle.rk_model.specs.declared.op.Op.{Op}
 use Rattle.rk_model.specs.declared.op.Op.TheVariants as op
 use Rattle.rk_model.specs.declared.options.IterOptions.{IterOptions}
-use Rattle.rk_machine.specs.Machine.{State, start, Event, Commit as commits, OpenAt, Moves, Reply, Step}
+use Rattle.rk_batch.specs.Checks.{AllPass, IsFirst, checks}
+use Rattle.rk_batch.specs.declared.error.BatchError.{BatchError}
+use Rattle.rk_machine.specs.Machine.{State, start, without_named, Event, Commit as commits, Snap as snaps, Release as releases, OpenAt, Moves, Close as closes, Reply, EmptyBatch, Step}
 use Rattle.rk_script.specs.Script.{Names, is_accepted, names_after}
 use Rattle.rk_script.specs.declared.line.Event.{Event as LineEvent}
-use Rattle.rk_script.specs.declared.line.Event.TheVariants.{RangeSet, Commit, Iter, First, Next}
+use Rattle.rk_script.specs.declared.line.Event.TheVariants.{Put, Del, RangeSet, RangeUnset, RangeDel, Commit, Snap, Release, Iter, First, Last, Next, Prev, SeekGe, SeekLt, Close}
 use Rattle.rk_script.specs.declared.line.Line.{Line}
-use Rattle.rk_program.specs.Replies.{reply_text}
+use Rattle.rk_program.specs.Replies.{refused_text, reply_text}
 
--- The state of the machine, and the batch of each writer
+-- The state of the machine, the batch of each writer, and the number of each snapshot
 pub record SessionState : Type 0 where
   pub state : State
   pub batches : List (List ℕ × List Op)
+  pub snapshots : List (List ℕ × ℕ)
 
 abbrev pub begin : SessionState
-begin = record { state = start; batches = [] }
+begin = record { state = start; batches = []; snapshots = [] }
 
+-- a writer's batch is empty at its first use
 abbrev pub batch_of : List ℕ → SessionState → List Op
 batch_of writer s = unwrap_or (named writer s.batches) []
 
--- no bounds and no mask
-abbrev pub no_options : IterOptions
-no_options = record { lower = None; upper = None; mask = None }
+-- a writer's batch is this from now on, and its name is in use
+abbrev pub with_batch : List ℕ → List Op → SessionState → SessionState
+with_batch writer ops s = record s { batches = with_named writer ops s.batches }
 
--- an event of the machine, whose reply is written under a name
-abbrev pub DoesEvent : SessionState → List ℕ → Event → List (List ℕ × List Op) → List ℕ → SessionState → Type 0
-DoesEvent s name event batches text s' = (reply : Reply)
+-- the operation that a line gives to a writer's batch
+abbrev pub op_of : LineEvent → Option (List ℕ × Op)
+op_of (Put writer key value) = Some (writer, op.Put key value)
+op_of (Del writer key) = Some (writer, op.Del key)
+op_of (RangeSet writer start end suffix value) = Some (writer, op.RangeSet start end suffix value)
+op_of (RangeUnset writer start end suffix) = Some (writer, op.RangeUnset start end suffix)
+op_of (RangeDel writer start end) = Some (writer, op.RangeDel start end)
+op_of other = None
+
+-- the move that a line makes with an iterator
+abbrev pub move_of : LineEvent → Option (List ℕ × Move)
+move_of (First iter) = Some (iter, move.First)
+move_of (Last iter) = Some (iter, move.Last)
+move_of (Next iter) = Some (iter, move.Next)
+move_of (Prev iter) = Some (iter, move.Prev)
+move_of (SeekGe iter key) = Some (iter, move.SeekGe key)
+move_of (SeekLt iter key) = Some (iter, move.SeekLt key)
+move_of other = None
+
+-- Where all checks pass, the operation is added and nothing is written. Else the first check that fails is told, and
+-- the batch stays.
+abbrev pub DoesOp : SessionState → List ℕ → Op → List ℕ → SessionState → Type 0
+DoesOp s writer op text s' =
+    let ops = batch_of writer s in
+    (AllPass (checks ops op) × (text ≡ []) × (s' ≡ with_batch writer (ops ++ op ∷ []) s))
+    ⊎ ((error : BatchError) × IsFirst (checks ops op) error × (text ≡ refused_text writer error) × (s' ≡ with_batch writer ops s))
+
+-- an event of the machine, whose reply is written under a name; the batches and the snapshots are these afterwards
+abbrev pub DoesEvent : SessionState → List ℕ → Event → List (List ℕ × List Op) → List (List ℕ × ℕ) → List ℕ → SessionState → Type 0
+DoesEvent s name event batches snapshots text s' = (reply : Reply)
     × Step s.state event reply s'.state
-    × (s'.batches ≡ batches)
     × (text ≡ reply_text name reply)
+    × (s'.batches ≡ batches)
+    × (s'.snapshots ≡ snapshots)
 
--- A line adds to its writer's batch and writes nothing, or is one event of the machine. A commit clears its batch.
+-- a commit clears its batch, and one that is refused leaves it
+abbrev pub left_by : Reply → List Op → List Op
+left_by EmptyBatch ops = ops
+left_by other ops = []
+
+abbrev pub DoesCommit : SessionState → List ℕ → List ℕ → SessionState → Type 0
+DoesCommit s writer text s' =
+    let ops = batch_of writer s in
+    (reply : Reply)
+    × Step s.state (commits ops) reply s'.state
+    × (text ≡ reply_text writer reply)
+    × (s'.batches ≡ with_named writer (left_by reply ops) s.batches)
+    × (s'.snapshots ≡ s.snapshots)
+
+-- the number of the snapshot that an opening names, or none
+abbrev pub IsTime : SessionState → Option (List ℕ) → Option ℕ → Type 0
+IsTime s None number = number ≡ None
+IsTime s (Some name) number = (named name s.snapshots ≡ number) × IsSome number
+
+abbrev pub DoesOpening : SessionState → List ℕ → Option (List ℕ) → IterOptions → List ℕ → SessionState → Type 0
+DoesOpening s name at options text s' = (number : Option ℕ)
+    × IsTime s at number
+    × DoesEvent s name (OpenAt name number options) s.batches s.snapshots text s'
+
+-- a line that gives an operation to a batch, or moves an iterator
+abbrev pub DoesOther : SessionState → Option (List ℕ × Op) → Option (List ℕ × Move) → List ℕ → SessionState → Type 0
+DoesOther s (Some o) m text s' = DoesOp s o.0 o.1 text s'
+DoesOther s None (Some m) text s' = DoesEvent s m.0 (Moves m.0 m.1) s.batches s.snapshots text s'
+DoesOther s None None text s' = ⊥
+
+-- What a line does. All but the lines on batches are each one event of the machine.
 abbrev pub Does : SessionState → LineEvent → List ℕ → SessionState → Type 0
-Does s (RangeSet writer start end suffix value) text s' = (text ≡ [])
-    × (s' ≡ record s { batches = with_named writer (batch_of writer s ++ op.RangeSet start end suffix value ∷ []) s.batches })
-Does s (Commit writer) text s' = DoesEvent s writer (commits (batch_of writer s)) (with_named writer [] s.batches) text s'
-Does s (Iter name) text s' = DoesEvent s name (OpenAt name None no_options) s.batches text s'
-Does s (First iter) text s' = DoesEvent s iter (Moves iter move_first) s.batches text s'
-Does s (Next iter) text s' = DoesEvent s iter (Moves iter move_next) s.batches text s'
+Does s (Commit writer) text s' = DoesCommit s writer text s'
+Does s (Snap name) text s' = DoesEvent s name snaps s.batches (s.snapshots ++ (name, last s.state.history) ∷ []) text s'
+Does s (Release name) text s' = (number : ℕ)
+    × (named name s.snapshots ≡ Some number)
+    × DoesEvent s name (releases number) s.batches (without_named name s.snapshots) text s'
+Does s (Iter name at lower upper mask) text s' = DoesOpening s name at (record { lower = lower; upper = upper; mask = mask }) text s'
+Does s (Close iter) text s' = DoesEvent s iter (closes iter) s.batches s.snapshots text s'
+Does s event text s' = DoesOther s (op_of event) (move_of event) text s'
 
 -- what is written for lines, one after the other
 abbrev pub IsTranscript : SessionState → List Line → List ℕ → SessionState → Type 0
@@ -53,7 +119,11 @@ IsTranscript s (line ∷ lines) text s' = (first : List ℕ) × (rest : List ℕ
 
 -- the names that are in use
 abbrev pub names_of : SessionState → Names
-names_of s = record { writers = map (λ b. (b.0, length b.1)) s.batches; iterators = map (λ i. i.0) s.state.iterators }
+names_of s = record {
+  writers = map (λ b. b.0) s.batches;
+  snapshots = map (λ x. x.0) s.snapshots;
+  iterators = map (λ i. i.0) s.state.iterators;
+}
 
 -- each line is one that the names before it let stand
 abbrev pub AreAccepted : Names → List Line → Type 0

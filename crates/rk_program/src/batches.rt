@@ -1,66 +1,64 @@
 // The batches of the writers, and their way into the entries.
-ghost use Rattle.std.specs.Prelude.{◌≡◌, ◌+◌, ◌++◌, length, IfOk, OnOk};
+ghost use Rattle.std.specs.Prelude.{◌≡◌, ◌+◌, ◌++◌, length, IfOk, OnOk, IsSome, IfSome};
 ghost use Rattle.rk_model.specs.Operations.{numbered};
-ghost use Rattle.rk_model.specs.declared.op.Op.TheVariants.{RangeSet};
-ghost use Rattle.rk_program.specs.Standing.{batches, with_op};
+ghost use Rattle.rk_program.specs.Transcript.{op_of};
+ghost use Rattle.rk_program.specs.Standing.{IsGiven, IsPlaceOf};
 
-use crate::named::find;
 use crate::session::Writer;
-use rk_key::{Suffix, UserKey};
+use rk_batch::{Batch, BatchError};
 use rk_model::{Entry, Op};
 use rk_outside::{Bytes, NoMemory};
+use rk_script::{Event, find};
 use std::alloc::Global;
 
-/// The operation of a range key set.
-pub fn range_set(
-    start: &UserKey,
-    end: &UserKey,
-    suffix: &Suffix,
-    value: &Bytes,
-) -> Result<Op, NoMemory>
-    ensures { IfOk result (λ op. op ≡ RangeSet start.now end.now suffix.now value.now) }
-{
-    Ok(Op::RangeSet {
-        start: copy_key(start)?,
-        end: copy_key(end)?,
-        suffix: suffix.copy(),
-        value: value.copy()?,
-    })
-}
-
-// A key is refused for want of memory alone.
-fn copy_key(key: &UserKey) -> Result<UserKey, NoMemory>
-    ensures { IfOk result (λ copied. copied ≡ key.now) }
-{
-    match key.copy() {
-        Ok(copied) => Ok(copied),
-        Err(_) => Err(NoMemory),
-    }
-}
-
-/// Adds an operation to a writer's batch, and the writer where it is new.
-pub fn add(alloc: Global, writers: &mut Vec<Writer>, name: &Bytes, op: Op) -> Result<(), NoMemory>
-    ensures { OnOk result (batches writers.new.items ≡ with_op name.now op (batches writers.old.items)) }
+/// The place of a writer. A new one is put at the end, with an empty batch.
+pub fn place_of(alloc: Global, writers: &mut Vec<Writer>, name: &Bytes) -> Result<usize, NoMemory>
+    ensures { IfOk result (IsPlaceOf writers.old.items writers.new.items name.now) }
 {
     match find(writers, name.bytes()) {
-        Some(i) => Ok(writers[i].ops.push(op)?),
+        Some(i) => Ok(i),
         None => {
-            let mut ops = Vec::new(alloc);
-            ops.push(op)?;
-            Ok(writers.push(Writer {
-                name: name.copy()?,
-                ops,
-            })?)
+            let batch = Batch::new(alloc)?;
+            let name = name.copy()?;
+            writers.push(Writer { name, batch })?;
+            Ok(writers.len() - 1)
         }
     }
 }
 
-/// Appends operations to the entries, with the numbers that follow.
-pub fn append(entries: &mut Vec<Entry>, ops: Vec<Op>) -> Result<(), NoMemory>
-    ensures { OnOk result (entries.new.items ≡ entries.old.items ++ numbered (length entries.old.items + 1) ops.items) }
+/// Gives a batch the operation that a line asks for.
+pub fn give(batch: &mut Batch, event: &Event) -> Result<(), BatchError>
+    requires { IsSome (op_of event.now) }
+    ensures { IfSome (op_of event.now) (λ o. IsGiven batch.old batch.new o.1 result) }
+{
+    match event {
+        Event::Put { key, value, .. } => batch.set(key.bytes(), value.bytes()),
+        Event::Del { key, .. } => batch.del(key.bytes()),
+        Event::RangeSet {
+            start,
+            end,
+            suffix,
+            value,
+            ..
+        } => batch.rset(start.bytes(), end.bytes(), suffix.bytes(), value.bytes()),
+        Event::RangeUnset {
+            start,
+            end,
+            suffix,
+            ..
+        } => batch.runset(start.bytes(), end.bytes(), suffix.bytes()),
+        Event::RangeDel { start, end, .. } => batch.rdel(start.bytes(), end.bytes()),
+        _ => unreachable!(),
+    }
+}
+
+/// Appends copies of operations to the entries, with the numbers that follow.
+pub fn append(entries: &mut Vec<Entry>, ops: &[Op]) -> Result<(), NoMemory>
+    ensures { OnOk result (entries.new.items ≡ entries.old.items ++ numbered (length entries.old.items + 1) ops.now) }
 {
     for op in ops {
         let seq = entries.len() as u64 + 1;
+        let op = op.copy()?;
         entries.push(Entry { op, seq })?;
     }
     Ok(())

@@ -1,23 +1,24 @@
 // The whole of a source.
 ghost use Rattle.std.specs.Prelude.{◌≡◌, ◌+◌, ◌-◌, ◌<◌, ◌≤◌, ◌++◌, List, ℕ, [], length, take, vec_len, IfOk, IfErr, OnOk, MatchResult};
 ghost use Rattle.std.specs.Io.KnownBytes.{Consumes, IsAtEnd};
-ghost use Rattle.rk_program.specs.Input.{GaveAll, IsInputEnd, IsReadFailure};
+ghost use Rattle.rk_program.specs.Input.{Gave, IsFailure};
 
-use crate::Cause;
+use crate::failure::Failure;
 use rk_outside::{Failed, Source};
 use std::alloc::Global;
 
 /// The most bytes of a command file.
-const MOST_FILE_BYTES: usize = 1_048_576;
+pub const MOST_FILE_BYTES: usize = 67_108_864;
 
 // How many bytes are asked for at once.
 const PIECE: usize = 4096;
 
 /// Reads a source to its end, or until it has given more bytes than a file may have. Each turn takes at
 /// least one byte, and no more than one byte above the limit is ever taken.
-pub fn read_all<S: Source>(alloc: Global, source: &mut S) -> Result<Vec<u8>, Cause>
-    ensures file { IfOk result (λ file. GaveAll (S.left source.old) (S.left source.new) file.items) }
-    ensures cause { IfErr result (IsInputEnd (S.left source.old) (S.left source.new) (S.fault_count source.old) (S.fault_count source.new)) }
+pub fn read_all<S: Source>(alloc: Global, source: &mut S) -> Result<Vec<u8>, Failure>
+    ensures gave { IfOk result (λ file. Gave (S.left source.old) (S.left source.new) file.items) }
+    ensures no_fault { OnOk result (S.fault_count source.new ≡ S.fault_count source.old) }
+    ensures cause { IfErr result (IsFailure (S.fault_count source.old) (S.fault_count source.new)) }
     ensures later { S.fault_count source.old ≤ S.fault_count source.new }
 {
     let mut file = Vec::new(alloc);
@@ -28,17 +29,16 @@ pub fn read_all<S: Source>(alloc: Global, source: &mut S) -> Result<Vec<u8>, Cau
             return Ok(file);
         }
     }
-    Err(Cause::Length {
-        limit: MOST_FILE_BYTES as u64,
-    })
+    Ok(file)
 }
 
 // Takes one more piece behind the file: nothing at the end of the input.
-fn read_piece<S: Source>(source: &mut S, file: &mut Vec<u8>) -> Result<(), Cause>
+fn read_piece<S: Source>(source: &mut S, file: &mut Vec<u8>) -> Result<(), Failure>
     requires { vec_len file.old ≤ MOST_FILE_BYTES }
     ensures piece { OnOk result ((piece : List ℕ) × (file.new.items ≡ file.old.items ++ piece) × Consumes (S.left source.old) (S.left source.new) piece × (piece ≡ [] → IsAtEnd (S.left source.new))) }
     ensures len { OnOk result (vec_len file.new ≤ MOST_FILE_BYTES + 1) }
-    ensures cause { IfErr result (IsReadFailure (S.fault_count source.old) (S.fault_count source.new)) }
+    ensures no_fault { OnOk result (S.fault_count source.new ≡ S.fault_count source.old) }
+    ensures cause { IfErr result (IsFailure (S.fault_count source.old) (S.fault_count source.new)) }
     ensures later { S.fault_count source.old ≤ S.fault_count source.new }
 {
     let mut piece = [0u8; PIECE];
@@ -46,8 +46,8 @@ fn read_piece<S: Source>(source: &mut S, file: &mut Vec<u8>) -> Result<(), Cause
     match source.read(&mut piece[..room]) {
         Ok(count) => file
             .extend_from_slice(&piece[..count])
-            .map_err(|_| Cause::Memory),
-        Err(Failed) => Err(Cause::SourceFault {
+            .map_err(|_| Failure::Memory),
+        Err(Failed) => Err(Failure::Fault {
             faults: source.faults(),
         }),
     }

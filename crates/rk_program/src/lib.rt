@@ -8,8 +8,9 @@
 
 mod batches;
 mod cause;
+mod failure;
 mod input;
-mod named;
+mod iterators;
 mod output;
 mod program;
 mod replies;

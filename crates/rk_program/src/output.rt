@@ -1,17 +1,18 @@
 // What is written to a sink.
-ghost use Rattle.std.specs.Prelude.{◌≤◌, length, OnOk, OnErr, IfErr};
+ghost use Rattle.std.specs.Prelude.{◌≡◌, ◌≤◌, length, OnOk, OnErr, IfErr};
 ghost use Rattle.std.specs.Io.KnownBytes.{Appends, Keeps};
 ghost use Rattle.rk_outside.specs.Sinks.{AppendsPrefix};
-ghost use Rattle.rk_program.specs.Output.{IsWriteFailure};
+ghost use Rattle.rk_program.specs.Input.{IsFailure};
 
-use crate::Cause;
+use crate::failure::Failure;
 use rk_outside::{Failed, Sink, SinkError};
 
 /// Writes all the bytes. Each turn gives at least one byte. After a failure some first bytes were written.
-pub fn write_all<K: Sink>(sink: &mut K, bytes: &[u8]) -> Result<(), Cause>
+pub fn write_all<K: Sink>(sink: &mut K, bytes: &[u8]) -> Result<(), Failure>
     ensures written { OnOk result (Appends (K.written sink.old) (K.written sink.new) bytes.now) }
+    ensures no_fault { OnOk result (K.fault_count sink.new ≡ K.fault_count sink.old) }
     ensures part { OnErr result (AppendsPrefix (K.written sink.old) (K.written sink.new) bytes.now) }
-    ensures cause { IfErr result (IsWriteFailure (K.fault_count sink.old) (K.fault_count sink.new)) }
+    ensures cause { IfErr result (IsFailure (K.fault_count sink.old) (K.fault_count sink.new)) }
     ensures later { K.fault_count sink.old ≤ K.fault_count sink.new }
 {
     let mut rest = bytes;
@@ -21,9 +22,9 @@ pub fn write_all<K: Sink>(sink: &mut K, bytes: &[u8]) -> Result<(), Cause>
                 let (_, after) = rest.split_at(count);
                 rest = after;
             }
-            Err(SinkError::Memory) => return Err(Cause::Memory),
+            Err(SinkError::Memory) => return Err(Failure::Memory),
             Err(SinkError::Failed) => {
-                return Err(Cause::SinkFault {
+                return Err(Failure::Fault {
                     faults: sink.faults(),
                 });
             }
@@ -33,14 +34,15 @@ pub fn write_all<K: Sink>(sink: &mut K, bytes: &[u8]) -> Result<(), Cause>
 }
 
 /// Hands on what was written.
-pub fn finish<K: Sink>(sink: &mut K) -> Result<(), Cause>
+pub fn finish<K: Sink>(sink: &mut K) -> Result<(), Failure>
     ensures kept { Keeps (K.written sink.old) (K.written sink.new) }
-    ensures cause { IfErr result (IsWriteFailure (K.fault_count sink.old) (K.fault_count sink.new)) }
+    ensures no_fault { OnOk result (K.fault_count sink.new ≡ K.fault_count sink.old) }
+    ensures cause { IfErr result (IsFailure (K.fault_count sink.old) (K.fault_count sink.new)) }
     ensures later { K.fault_count sink.old ≤ K.fault_count sink.new }
 {
     match sink.finish() {
         Ok(()) => Ok(()),
-        Err(Failed) => Err(Cause::SinkFault {
+        Err(Failed) => Err(Failure::Fault {
             faults: sink.faults(),
         }),
     }

@@ -4,12 +4,12 @@ ghost use Rattle.std.specs.Io.KnownBytes.{Keeps};
 ghost use Rattle.rk_outside.specs.Causes.{Rose};
 ghost use Rattle.rk_script.specs.Script.{no_names, script};
 ghost use Rattle.rk_script.specs.declared.line.Line.{Line};
-ghost use Rattle.rk_program.specs.Input.{most_file_bytes, GaveTooMany, IsFault};
-ghost use Rattle.rk_program.specs.Output.{IsWriteFailure};
+ghost use Rattle.rk_program.specs.Input.{most_file_bytes, GaveTooMany, IsFault, IsFailure};
 ghost use Rattle.rk_program.specs.Ends.{status_of, are_words, is_words, OnDone, OnLine, OnLength, OnSourceFault, OnSinkFault, OnMemory, OnNotBegun, IsDoneOrMemory, GaveLines, GaveBadLine, Wrote, WrotePart, DidAll, DidPart, IsNoFile, IsEnd};
 ghost use Rattle.rk_program.specs.Transcript.{AreAccepted};
 
-use crate::input::read_all;
+use crate::failure::{Failure, NoFile};
+use crate::input::{MOST_FILE_BYTES, read_all};
 use crate::output::{finish, write_all};
 use crate::session::Session;
 use crate::{Cause, Ended};
@@ -32,6 +32,7 @@ pub fn run<S: Source, K: Sink, V>(
 
     // The words are refused exactly where they are not the one word `run`, and then nothing was read.
     ensures words { is_words result.cause ≡ not (are_words words.now) }
+    ensures unread { IsTrue (is_words result.cause) → source.new ≡ source.old }
 
     // Each other cause tells what came of the input, and a fault comes only where that object's count rose.
     ensures length { OnLength result.cause (λ limit. (limit ≡ most_file_bytes) × GaveTooMany (S.left source.old) (S.left source.new)) }
@@ -69,6 +70,7 @@ pub fn run<S: Source, K: Sink, V>(
 // Runs the program and answers how it ended.
 fn end<S: Source, K: Sink>(alloc: Global, words: &[String], source: &mut S, sink: &mut K) -> Cause
     ensures words { is_words result ≡ not (are_words words.now) }
+    ensures unread { IsTrue (is_words result) → source.new ≡ source.old }
     ensures end { IsEnd (S.left source.old) (S.left source.new) (K.written sink.old) (K.written sink.new) (S.fault_count source.old) (S.fault_count source.new) (K.fault_count sink.old) (K.fault_count sink.new) result }
     ensures source_count { S.fault_count source.old ≤ S.fault_count source.new }
     ensures sink_count { K.fault_count sink.old ≤ K.fault_count sink.new }
@@ -79,11 +81,19 @@ fn end<S: Source, K: Sink>(alloc: Global, words: &[String], source: &mut S, sink
     }
     let lines = match read_lines(alloc, source) {
         Ok(lines) => lines,
-        Err(cause) => return cause,
+        Err(NoFile::Memory) => return Cause::Memory,
+        Err(NoFile::Fault { faults }) => return Cause::SourceFault { faults },
+        Err(NoFile::TooLong) => {
+            return Cause::Length {
+                limit: MOST_FILE_BYTES as u64,
+            };
+        }
+        Err(NoFile::BadLine { line, why }) => return Cause::Line { line, why },
     };
     match do_lines(alloc, &lines, sink) {
         Ok(()) => Cause::Done,
-        Err(cause) => cause,
+        Err(Failure::Memory) => Cause::Memory,
+        Err(Failure::Fault { faults }) => Cause::SinkFault { faults },
     }
 }
 
@@ -98,52 +108,43 @@ fn is_run(words: &[String]) -> bool
 }
 
 // Reads a source to its end, and the lines of what it gave.
-fn read_lines<S: Source>(alloc: Global, source: &mut S) -> Result<Vec<Line>, Cause>
+fn read_lines<S: Source>(alloc: Global, source: &mut S) -> Result<Vec<Line>, NoFile>
     ensures lines { IfOk result (λ lines. GaveLines (S.left source.old) (S.left source.new) lines.items) }
+    ensures no_fault { OnOk result (S.fault_count source.new ≡ S.fault_count source.old) }
     ensures cause { IfErr result (IsNoFile (S.left source.old) (S.left source.new) (S.fault_count source.old) (S.fault_count source.new)) }
     ensures later { S.fault_count source.old ≤ S.fault_count source.new }
-    ensures no_fault { OnOk result (S.fault_count source.new ≡ S.fault_count source.old) }
 {
-    let before = source.faults();
     let file = match read_all(alloc, source) {
         Ok(file) => file,
-        Err(cause) => return Err(cause),
+        Err(Failure::Memory) => return Err(NoFile::Memory),
+        Err(Failure::Fault { faults }) => return Err(NoFile::Fault { faults }),
     };
-    // A count that rose is a fault, also where each call was well.
-    let faults = source.faults();
-    if faults != before {
-        return Err(Cause::SourceFault { faults });
+    if file.len() > MOST_FILE_BYTES {
+        return Err(NoFile::TooLong);
     }
     match read_script(alloc, &file) {
         Ok(lines) => Ok(lines),
-        Err(ScriptError::Memory) => Err(Cause::Memory),
-        Err(ScriptError::BadLine { line, why }) => Err(Cause::Line { line, why }),
+        Err(ScriptError::Memory) => Err(NoFile::Memory),
+        Err(ScriptError::BadLine { line, why }) => Err(NoFile::BadLine { line, why }),
     }
 }
 
 // Does the lines one after the other, each line's replies before the next line, and finishes the sink.
-fn do_lines<K: Sink>(alloc: Global, lines: &[Line], sink: &mut K) -> Result<(), Cause>
+fn do_lines<K: Sink>(alloc: Global, lines: &[Line], sink: &mut K) -> Result<(), Failure>
     requires { AreAccepted no_names lines.now }
     ensures done { OnOk result (Wrote (K.written sink.old) (K.written sink.new) lines.now) }
-    ensures part { OnErr result (WrotePart (K.written sink.old) (K.written sink.new) lines.now) }
-    ensures cause { IfErr result (IsWriteFailure (K.fault_count sink.old) (K.fault_count sink.new)) }
-    ensures later { K.fault_count sink.old ≤ K.fault_count sink.new }
     ensures no_fault { OnOk result (K.fault_count sink.new ≡ K.fault_count sink.old) }
+    ensures part { OnErr result (WrotePart (K.written sink.old) (K.written sink.new) lines.now) }
+    ensures cause { IfErr result (IsFailure (K.fault_count sink.old) (K.fault_count sink.new)) }
+    ensures later { K.fault_count sink.old ≤ K.fault_count sink.new }
 {
-    let before = sink.faults();
     let mut session = Session::new(alloc);
     for line in lines {
         let text = match session.line(line) {
             Ok(text) => text,
-            Err(_) => return Err(Cause::Memory),
+            Err(_) => return Err(Failure::Memory),
         };
         write_all(sink, &text)?;
     }
-    finish(sink)?;
-    // A count that rose is a fault, also where each call was well.
-    let faults = sink.faults();
-    if faults != before {
-        return Err(Cause::SinkFault { faults });
-    }
-    Ok(())
+    finish(sink)
 }

@@ -1,8 +1,9 @@
 mod Examples
 pub mod Texts
 pub mod Escapes
-pub mod Writers
+pub mod Naming
 pub mod KeyTests
 pub mod Reading
-pub mod Events
+pub mod Opening
+pub mod Counts
 pub mod Printing

@@ -1,5 +1,5 @@
 -- Tests of the form of a key that compute. They answer as `IsSuffix` and `IsKey` of rk_key do.
-use Rattle.std.specs.Prelude.{ℕ, ◌==◌, ◌^◌, nat_le, nat_lt, Bool, true, false, ◌&&◌, List, [], ◌∷◌, length}
+use Rattle.std.specs.Prelude.{ℕ, ◌==◌, ◌^◌, nat_le, nat_lt, Bool, true, false, not, ◌&&◌, List, [], ◌∷◌, length}
 use Rattle.std.specs.List.{list_all}
 use Rattle.rk_key.specs.Keys.{at_sign, prefix, suffix, decimal}
 use Rattle.rk_model.specs.Lists.{none_of}
@@ -15,6 +15,6 @@ is_suffix (at ∷ first ∷ digits) =
 abbrev pub is_key : List ℕ → Bool
 is_key bytes = nat_le 1 (length (prefix bytes)) && nat_le (length (prefix bytes)) 200 && is_suffix (suffix bytes)
 
--- a key that may be a start or an end of a span
-abbrev pub is_bare_key : List ℕ → Bool
-is_bare_key bytes = is_key bytes && none_of (suffix bytes)
+-- a suffix that may be a mask
+abbrev pub is_mask : List ℕ → Bool
+is_mask bytes = not (none_of bytes) && is_suffix bytes

@@ -1,4 +1,8 @@
 pub mod Words
 pub mod KeyTests
+pub mod Checks
+pub mod Grammar
+pub mod Seen
+pub mod Naming
 pub mod Script
 pub mod Laws

@@ -1,26 +1,18 @@
--- Command files: what a line asks for, the names that are in use, and a whole file.
-use Rattle.std.specs.Prelude.{◌≡◌, ℕ, ◌+◌, nat_le, nat_lt, Bool, false, not, ◌&&◌, List, [], ◌∷◌, ◌++◌, length, unwrap_or, if◌then◌else◌, Option, Some, None, Result, Ok, Err, codes}
-use Rattle.std.specs.List.{list_all, list_any}
-use Rattle.std.specs.Option.{option_map, option_map_or, option_and_then}
-use Rattle.std.specs.Ordering.{is_lt}
-use Rattle.rk_key.specs.Keys.{key_cmp}
-use Rattle.rk_model.specs.Named.{named, with_named}
-use Rattle.rk_model.specs.Spans.{same_bytes}
-use Rattle.rk_script.specs.KeyTests.{is_suffix, is_bare_key}
-use Rattle.rk_script.specs.Words.{lines, words, is_skipped, is_printable, is_name, unescaped}
+-- Command files: the names that are live, and a whole file.
+use Rattle.std.specs.Prelude.{◌≡◌, ℕ, ◌+◌, nat_lt, Bool, true, not, ◌&&◌, ◌||◌, List, [], ◌∷◌, ◌++◌, length, if◌then◌else◌, Result, Ok, Err}
+use Rattle.std.specs.List.{list_all}
+use Rattle.std.specs.Option.{option_map_or}
+use Rattle.rk_script.specs.Checks.{Check, checked}
+use Rattle.rk_script.specs.Grammar.{event_of, and_then}
+use Rattle.rk_script.specs.Naming.{is_called, with_name, without_name}
+use Rattle.rk_script.specs.Words.{lines, words, is_skipped, is_printable}
 use Rattle.rk_script.specs.declared.line.Event.{Event}
-use Rattle.rk_script.specs.declared.line.Event.TheVariants.{RangeSet, Commit, Iter, First, Next}
+use Rattle.rk_script.specs.declared.line.Event.TheVariants.{Put, Del, RangeSet, RangeUnset, RangeDel, Commit, Snap, Release, Iter, First, Last, Next, Prev, SeekGe, SeekLt, Close}
 use Rattle.rk_script.specs.declared.line.Line.{Line}
 use Rattle.rk_script.specs.declared.line.ScriptError.{ScriptError}
 use Rattle.rk_script.specs.declared.line.ScriptError.TheVariants as refusals
 use Rattle.rk_script.specs.declared.line.Why.{Why}
-use Rattle.rk_script.specs.declared.line.Why.TheVariants.{Word}
-
-abbrev pub most_value_bytes : ℕ
-most_value_bytes = 32768
-
-abbrev pub most_operations : ℕ
-most_operations = 1000
+use Rattle.rk_script.specs.declared.line.Why.TheVariants.{Byte, NoName, Taken, TooMany}
 
 abbrev pub most_writers : ℕ
 most_writers = 64
@@ -28,85 +20,86 @@ most_writers = 64
 abbrev pub most_iterators : ℕ
 most_iterators = 100
 
--- the name that the words are
-abbrev pub one_name : List (List ℕ) → Option (List ℕ)
-one_name [] = None
-one_name (name ∷ []) = if is_name name then Some name else None
-one_name (name ∷ word ∷ words) = None
+abbrev pub most_snapshots : ℕ
+most_snapshots = 1000
 
--- a range key set whose keys, suffix and value are as they must be
-abbrev pub range_set : List ℕ → List ℕ → List ℕ → List ℕ → List ℕ → Option Event
-range_set writer start end suffix value =
-    if is_bare_key start && is_bare_key end && is_lt (key_cmp start end) && is_suffix suffix && nat_le (length value) most_value_bytes
-    then Some (RangeSet writer start end suffix value)
-    else None
-
-abbrev pub of_five_words : List ℕ → List ℕ → List ℕ → List ℕ → List ℕ → Option Event
-of_five_words writer start end suffix value =
-    if is_name writer
-    then option_and_then (λ s. option_and_then (λ e. option_and_then (λ x. option_and_then (λ v. range_set writer s e x v) (unescaped value)) (unescaped suffix)) (unescaped end)) (unescaped start)
-    else None
-
--- writer, start, end, suffix, value
-abbrev pub of_range_set : List (List ℕ) → Option Event
-of_range_set [] = None
-of_range_set (w ∷ []) = None
-of_range_set (w ∷ s ∷ []) = None
-of_range_set (w ∷ s ∷ e ∷ []) = None
-of_range_set (w ∷ s ∷ e ∷ x ∷ []) = None
-of_range_set (w ∷ s ∷ e ∷ x ∷ v ∷ []) = of_five_words w s e x v
-of_range_set (w ∷ s ∷ e ∷ x ∷ v ∷ word ∷ words) = None
-
--- what the words of a line ask for
-abbrev pub event_of : List (List ℕ) → Option Event
-event_of [] = None
-event_of (word ∷ words) =
-    if same_bytes word (codes "rset") then of_range_set words
-    else (if same_bytes word (codes "commit") then option_map Commit (one_name words)
-    else (if same_bytes word (codes "iter") then option_map Iter (one_name words)
-    else (if same_bytes word (codes "first") then option_map First (one_name words)
-    else (if same_bytes word (codes "next") then option_map Next (one_name words)
-    else None))))
-
--- The names in use: each writer with the count of its batch's operations, and each iterator
+-- The names that are live. One word may be a name of each kind.
 pub record Names : Type 0 where
-  pub writers : List (List ℕ × ℕ)
+  pub writers : List (List ℕ)
   pub iterators : List (List ℕ)
+  pub snapshots : List (List ℕ)
 
 abbrev pub no_names : Names
-no_names = record { writers = []; iterators = [] }
+no_names = record { writers = []; iterators = []; snapshots = [] }
 
-abbrev pub is_among : List ℕ → List (List ℕ) → Bool
-is_among name names = list_any (same_bytes name) names
+-- whether each iterator and snapshot that a line uses is live
+abbrev pub are_live : Names → Event → Bool
+are_live names (Put writer key value) = true
+are_live names (Del writer key) = true
+are_live names (RangeSet writer start end suffix value) = true
+are_live names (RangeUnset writer start end suffix) = true
+are_live names (RangeDel writer start end) = true
+are_live names (Commit writer) = true
+are_live names (Snap name) = true
+are_live names (Release name) = is_called name names.snapshots
+are_live names (Iter name at lower upper mask) = option_map_or (λ snapshot. is_called snapshot names.snapshots) at true
+are_live names (First iter) = is_called iter names.iterators
+are_live names (Last iter) = is_called iter names.iterators
+are_live names (Next iter) = is_called iter names.iterators
+are_live names (Prev iter) = is_called iter names.iterators
+are_live names (SeekGe iter key) = is_called iter names.iterators
+are_live names (SeekLt iter key) = is_called iter names.iterators
+are_live names (Close iter) = is_called iter names.iterators
 
--- whether the names let the line stand
+-- whether the name of a snapshot or an iterator that a line makes is free
+abbrev pub is_free : Names → Event → Bool
+is_free names (Snap name) = not (is_called name names.snapshots)
+is_free names (Iter name at lower upper mask) = not (is_called name names.iterators)
+is_free names _ = true
+
+abbrev pub has_room_for : List ℕ → List (List ℕ) → Bool
+has_room_for writer writers = is_called writer writers || nat_lt (length writers) most_writers
+
+-- whether there are no more names than there may be after a line
+abbrev pub has_room : Names → Event → Bool
+has_room names (Put writer key value) = has_room_for writer names.writers
+has_room names (Del writer key) = has_room_for writer names.writers
+has_room names (RangeSet writer start end suffix value) = has_room_for writer names.writers
+has_room names (RangeUnset writer start end suffix) = has_room_for writer names.writers
+has_room names (RangeDel writer start end) = has_room_for writer names.writers
+has_room names (Commit writer) = has_room_for writer names.writers
+has_room names (Snap name) = nat_lt (length names.snapshots) most_snapshots
+has_room names (Iter name at lower upper mask) = nat_lt (length names.iterators) most_iterators
+has_room names _ = true
+
+-- whether the live names let a line stand
 abbrev pub is_accepted : Names → Event → Bool
-is_accepted names (RangeSet writer start end suffix value) =
-    option_map_or (λ count. nat_lt count most_operations) (named writer names.writers) (nat_lt (length names.writers) most_writers)
-is_accepted names (Commit writer) = option_map_or (λ count. nat_lt 0 count) (named writer names.writers) false
-is_accepted names (Iter name) = not (is_among name names.iterators) && nat_lt (length names.iterators) most_iterators
-is_accepted names (First iter) = is_among iter names.iterators
-is_accepted names (Next iter) = is_among iter names.iterators
+is_accepted names event = are_live names event && is_free names event && has_room names event
 
--- the count of a writer's batch
-abbrev pub count_of : List ℕ → Names → ℕ
-count_of writer names = unwrap_or (named writer names.writers) 0
+abbrev pub name_checks : Names → Event → List Check
+name_checks names event = (are_live names event, NoName) ∷ (is_free names event, Taken) ∷ (has_room names event, TooMany) ∷ []
 
--- the names after a line
+abbrev pub with_writer : List ℕ → Names → Names
+with_writer writer names = record names { writers = with_name writer names.writers }
+
+-- the names that are live after a line
 abbrev pub names_after : Names → Event → Names
-names_after names (RangeSet writer start end suffix value) =
-    record { writers = with_named writer (count_of writer names + 1) names.writers; iterators = names.iterators }
-names_after names (Commit writer) = record { writers = with_named writer 0 names.writers; iterators = names.iterators }
-names_after names (Iter name) = record { writers = names.writers; iterators = names.iterators ++ name ∷ [] }
-names_after names (First iter) = names
-names_after names (Next iter) = names
+names_after names (Put writer key value) = with_writer writer names
+names_after names (Del writer key) = with_writer writer names
+names_after names (RangeSet writer start end suffix value) = with_writer writer names
+names_after names (RangeUnset writer start end suffix) = with_writer writer names
+names_after names (RangeDel writer start end) = with_writer writer names
+names_after names (Commit writer) = with_writer writer names
+names_after names (Snap name) = record names { snapshots = names.snapshots ++ name ∷ [] }
+names_after names (Release name) = record names { snapshots = without_name name names.snapshots }
+names_after names (Iter name at lower upper mask) = record names { iterators = names.iterators ++ name ∷ [] }
+names_after names (Close iter) = record names { iterators = without_name iter names.iterators }
+names_after names _ = names
 
--- what a line that isn't skipped asks for, where the names let it stand
-abbrev pub accepted_event : Names → List ℕ → Option Event
+-- what a line that isn't skipped asks for, where the live names let it stand
+abbrev pub accepted_event : Names → List ℕ → Result Event Why
 accepted_event names line =
-    if list_all is_printable line
-    then option_and_then (λ event. if is_accepted names event then Some event else None) (event_of (words line))
-    else None
+    if list_all is_printable line then and_then (λ event. checked (name_checks names event) event) (event_of (words line)) else Err Byte
 
 -- The first line that is not of the grammar
 pub record BadLine : Type 0 where
@@ -118,9 +111,9 @@ before_lines line (Ok lines) = Ok (line ∷ lines)
 before_lines line (Err bad) = Err bad
 
 -- the line numbered n, and then those that follow it
-abbrev pub with_line : ℕ → Option Event → (Event → Result (List Line) BadLine) → Result (List Line) BadLine
-with_line n None following = Err (record { line = n; why = Word })
-with_line n (Some event) following = before_lines (record { number = n; event = event }) (following event)
+abbrev pub with_line : ℕ → Result Event Why → (Event → Result (List Line) BadLine) → Result (List Line) BadLine
+with_line n (Err why) following = Err (record { line = n; why = why })
+with_line n (Ok event) following = before_lines (record { number = n; event = event }) (following event)
 
 -- the lines from the one numbered n on
 abbrev pub read_from : ℕ → Names → List (List ℕ) → Result (List Line) BadLine

@@ -1,120 +1,178 @@
-// The names that the lines of a file use.
-ghost use Rattle.std.specs.Prelude.{◌≡◌, true, OnOk};
-ghost use Rattle.rk_model.specs.Named.{named, with_named};
-ghost use Rattle.rk_script.specs.Script.{is_accepted, names_after, no_names, is_among};
+// The names that are live.
+ghost use Rattle.std.specs.Prelude.{◌≡◌, OnOk};
+ghost use Rattle.rk_script.specs.Naming.{is_called, with_name, without_name};
+ghost use Rattle.rk_script.specs.Script.{are_live, is_free, has_room, has_room_for, name_checks, names_after, no_names};
+ghost use Rattle.rk_script.specs.Checks.{checked};
 
-use crate::Event;
+use crate::named::Named;
 use crate::words::is_word;
+use crate::{Event, Why, find};
 use rk_outside::{Bytes, NoMemory};
 use std::alloc::Global;
 use std::marker::Model;
 
-/// The most operations of a batch.
-const MOST_OPERATIONS: u64 = 1000;
-
 /// The most writers of a file.
 const MOST_WRITERS: usize = 64;
 
-/// The most iterators of a file.
+/// The most iterators that are open at once.
 const MOST_ITERATORS: usize = 100;
 
-/// The writers, each with the count of its batch's operations, and the iterators. Contracts see both lists.
+/// The most snapshots that are live at once.
+const MOST_SNAPSHOTS: usize = 1000;
+
+/// The names of writers, iterators and snapshots that are live. Contracts see the three lists.
 #[derive(Debug, Drop)]
-pub(crate) struct NamesInUse {
-    writers: Vec<(Bytes, u64)>,
+pub(crate) struct LiveNames {
+    writers: Vec<Bytes>,
     iterators: Vec<Bytes>,
+    snapshots: Vec<Bytes>,
 }
 
-impl Model for NamesInUse {
+impl Model for LiveNames {
     ghost use Rattle.rk_script.specs.Script.{Names};
 
     ghost Value = { Names };
 
-    ghost view = { λ n. record { writers = n.writers.items; iterators = n.iterators.items } };
+    ghost view = { λ n. record { writers = n.writers.items; iterators = n.iterators.items; snapshots = n.snapshots.items } };
 }
 
-impl NamesInUse {
-    pub(crate) fn new(alloc: Global) -> NamesInUse
+impl LiveNames {
+    pub(crate) fn new(alloc: Global) -> LiveNames
         ensures { result ≡ no_names }
     {
-        NamesInUse {
+        LiveNames {
             writers: Vec::new(alloc),
             iterators: Vec::new(alloc),
+            snapshots: Vec::new(alloc),
         }
     }
 
-    /// Whether the names let a line stand.
-    pub(crate) fn accepts(&self, event: &Event) -> bool
-        ensures { result ≡ is_accepted self.now event.now }
+    /// The event, where the names let it stand.
+    pub(crate) fn check(&self, event: Event) -> Result<Event, Why>
+        ensures { result ≡ checked (name_checks self.now event) event }
+    {
+        if !self.are_live(&event) {
+            Err(Why::NoName)
+        } else if !self.is_free(&event) {
+            Err(Why::Taken)
+        } else if !self.has_room(&event) {
+            Err(Why::TooMany)
+        } else {
+            Ok(event)
+        }
+    }
+
+    /// Whether each iterator and snapshot that a line uses is live.
+    fn are_live(&self, event: &Event) -> bool
+        ensures { result ≡ are_live self.now event.now }
     {
         match event {
-            Event::RangeSet { writer, .. } => match count_named(&self.writers, writer.bytes()) {
-                Some(count) => count < MOST_OPERATIONS,
-                None => self.writers.len() < MOST_WRITERS,
-            },
-            Event::Commit { writer } => match count_named(&self.writers, writer.bytes()) {
-                Some(count) => 0 < count,
-                None => false,
-            },
-            Event::Iter { name } => {
-                !is_among(name.bytes(), &self.iterators) && self.iterators.len() < MOST_ITERATORS
-            }
-            Event::First { iter } => is_among(iter.bytes(), &self.iterators),
-            Event::Next { iter } => is_among(iter.bytes(), &self.iterators),
+            Event::Put { .. }
+            | Event::Del { .. }
+            | Event::RangeSet { .. }
+            | Event::RangeUnset { .. }
+            | Event::RangeDel { .. }
+            | Event::Commit { .. }
+            | Event::Snap { .. } => true,
+            Event::Release { name } => is_called(name.bytes(), &self.snapshots),
+            Event::Iter { at: None, .. } => true,
+            Event::Iter { at: Some(at), .. } => is_called(at.bytes(), &self.snapshots),
+            Event::First { iter }
+            | Event::Last { iter }
+            | Event::Next { iter }
+            | Event::Prev { iter }
+            | Event::SeekGe { iter, .. }
+            | Event::SeekLt { iter, .. }
+            | Event::Close { iter } => is_called(iter.bytes(), &self.iterators),
         }
     }
 
-    /// Takes in a line's names, where they let it stand.
-    pub(crate) fn add(&mut self, alloc: Global, event: &Event) -> Result<(), NoMemory>
-        requires { is_accepted self.old event.now ≡ true }
+    /// Whether the name of a snapshot or an iterator that a line makes is free.
+    fn is_free(&self, event: &Event) -> bool
+        ensures { result ≡ is_free self.now event.now }
+    {
+        match event {
+            Event::Snap { name } => !is_called(name.bytes(), &self.snapshots),
+            Event::Iter { name, .. } => !is_called(name.bytes(), &self.iterators),
+            _ => true,
+        }
+    }
+
+    /// Whether there are no more names than there may be after a line.
+    fn has_room(&self, event: &Event) -> bool
+        ensures { result ≡ has_room self.now event.now }
+    {
+        match event {
+            Event::Put { writer, .. }
+            | Event::Del { writer, .. }
+            | Event::RangeSet { writer, .. }
+            | Event::RangeUnset { writer, .. }
+            | Event::RangeDel { writer, .. }
+            | Event::Commit { writer } => has_room_for(writer.bytes(), &self.writers),
+            Event::Snap { .. } => self.snapshots.len() < MOST_SNAPSHOTS,
+            Event::Iter { .. } => self.iterators.len() < MOST_ITERATORS,
+            _ => true,
+        }
+    }
+
+    /// Takes in the names of a line.
+    pub(crate) fn add(&mut self, event: &Event) -> Result<(), NoMemory>
         ensures { OnOk result (self.new ≡ names_after self.old event.now) }
     {
         match event {
-            Event::RangeSet { writer, .. } => {
-                let count = count_named(&self.writers, writer.bytes()).unwrap_or(0);
-                set_count(alloc, &mut self.writers, writer.bytes(), count + 1)
-            }
-            Event::Commit { writer } => set_count(alloc, &mut self.writers, writer.bytes(), 0),
-            Event::Iter { name } => Ok(self.iterators.push(name.copy()?)?),
-            Event::First { .. } | Event::Next { .. } => Ok(()),
+            Event::Put { writer, .. }
+            | Event::Del { writer, .. }
+            | Event::RangeSet { writer, .. }
+            | Event::RangeUnset { writer, .. }
+            | Event::RangeDel { writer, .. }
+            | Event::Commit { writer } => add_name(&mut self.writers, writer),
+            Event::Snap { name } => Ok(self.snapshots.push(name.copy()?)?),
+            Event::Release { name } => Ok(remove_name(&mut self.snapshots, name.bytes())),
+            Event::Iter { name, .. } => Ok(self.iterators.push(name.copy()?)?),
+            Event::Close { iter } => Ok(remove_name(&mut self.iterators, iter.bytes())),
+            _ => Ok(()),
         }
     }
 }
 
-/// The count under the name.
-fn count_named(writers: &[(Bytes, u64)], name: &[u8]) -> Option<u64>
-    ensures { result ≡ named name.now writers.now }
-{
-    for writer in writers {
-        if is_word(writer.0.bytes(), name) {
-            return Some(writer.1);
-        }
-    }
-    None
-}
+impl Named for Bytes {
+    ghost called = { λ b. b };
 
-/// Puts the count under the name: in the place of the name's count, or at the end.
-fn set_count(
-    alloc: Global,
-    writers: &mut Vec<(Bytes, u64)>,
-    name: &[u8],
-    count: u64,
-) -> Result<(), NoMemory>
-    ensures { OnOk result (writers.new.items ≡ with_named name.now count writers.old.items) }
-{
-    for writer in writers.iter_mut() {
-        if is_word(writer.0.bytes(), name) {
-            writer.1 = count;
-            return Ok(());
-        }
+    fn name(&self) -> &[u8] {
+        self.bytes()
     }
-    writers.push((Bytes::from_slice(alloc, name)?, count))?;
-    Ok(())
 }
 
 /// Whether a name is among these.
-fn is_among(name: &[u8], names: &[Bytes]) -> bool
-    ensures { result ≡ is_among name.now names.now }
+fn is_called(name: &[u8], names: &[Bytes]) -> bool
+    ensures { result ≡ is_called name.now names.now }
 {
-    names.iter().any(|other| is_word(name, other.bytes()))
+    names.iter().any(|other| is_word(other.bytes(), name))
+}
+
+/// Whether a writer of this name may be live beside these.
+fn has_room_for(writer: &[u8], writers: &[Bytes]) -> bool
+    ensures { result ≡ has_room_for writer.now writers.now }
+{
+    is_called(writer, writers) || writers.len() < MOST_WRITERS
+}
+
+/// Adds a name, where it is not there.
+fn add_name(names: &mut Vec<Bytes>, name: &Bytes) -> Result<(), NoMemory>
+    ensures { OnOk result (names.new.items ≡ with_name name.now names.old.items) }
+{
+    if is_called(name.bytes(), names) {
+        Ok(())
+    } else {
+        Ok(names.push(name.copy()?)?)
+    }
+}
+
+/// Takes the first of these names out.
+fn remove_name(names: &mut Vec<Bytes>, name: &[u8])
+    ensures { names.new.items ≡ without_name name.now names.old.items }
+{
+    if let Some(place) = find(names, name) {
+        let _ = names.remove(place);
+    }
 }

@@ -1,168 +1,227 @@
-use crate::{Event, Line, ScriptError, Why, push_escaped, push_escaped_bytes, read_script};
-use rk_outside::NoMemory;
+use crate::{
+    Event, Line, Named, ScriptError, Why, find, push_escaped, push_escaped_bytes, read_script,
+};
+use rk_outside::{Bytes, NoMemory};
 use std::alloc::Global;
 use std::test::Fail;
 
-// The words of a line, each word for bytes printed anew.
-fn push_event(out: &mut Vec<u8>, event: &Event) -> Result<(), NoMemory> {
-    match event {
-        Event::RangeSet {
-            writer,
-            start,
-            end,
-            suffix,
-            value,
-        } => {
-            out.extend_from_slice(b" rset ")?;
-            out.extend_from_slice(writer.bytes())?;
-            out.push(b' ')?;
-            push_escaped(out, start.bytes())?;
-            out.push(b' ')?;
-            push_escaped(out, end.bytes())?;
-            out.push(b' ')?;
-            push_escaped(out, suffix.bytes())?;
-            out.push(b' ')?;
-            push_escaped(out, value.bytes())
-        }
-        Event::Commit { writer } => push_named(out, b" commit ", writer.bytes()),
-        Event::Iter { name } => push_named(out, b" iter ", name.bytes()),
-        Event::First { iter } => push_named(out, b" first ", iter.bytes()),
-        Event::Next { iter } => push_named(out, b" next ", iter.bytes()),
+// Why a file is refused, and at which line.
+fn refusal(alloc: Global, file: &[u8]) -> Option<(u64, Why)> {
+    match read_script(alloc, file) {
+        Ok(_) => None,
+        Err(ScriptError::BadLine { line, why }) => Some((line, why)),
+        Err(ScriptError::Memory) => Some((0, Why::Word)),
     }
 }
 
-fn push_named(out: &mut Vec<u8>, verb: &[u8], name: &[u8]) -> Result<(), NoMemory> {
-    out.extend_from_slice(verb)?;
-    Ok(out.extend_from_slice(name)?)
+// Files that are refused, each with the line and the cause.
+const BAD_FILES: [(&[u8], u64, Why); 51] = [
+    (b"put w a\tb", 1, Why::Byte),
+    (b"#\x01\niter i\x01", 2, Why::Byte),
+    (b"frst\x7f i", 1, Why::Byte),
+    (b"frst i", 1, Why::Word),
+    (b"Put w a b", 1, Why::Word),
+    (b"rset w a d %- foo\nshape", 2, Why::Word),
+    (b"sync", 1, Why::Word),
+    (b"flush begin", 1, Why::Word),
+    (b"compact all", 1, Why::Word),
+    (b"lane x", 1, Why::Word),
+    (b"commit w sync", 1, Why::Word),
+    (b"commit W sync now", 1, Why::Word),
+    (b"iter i mask @5 x", 1, Why::Word),
+    (b"iter I lower a lower", 1, Why::Word),
+    (b"iter i upper b lower a", 1, Why::Word),
+    (b"iter i mask @5 mask @5", 1, Why::Word),
+    (b" # put w a b", 1, Why::Word),
+    (b"put w a", 1, Why::Count),
+    (b"put W %", 1, Why::Count),
+    (b"del w a b", 1, Why::Count),
+    (b"rset w a d %-", 1, Why::Count),
+    (b"runset w a d @5 x", 1, Why::Count),
+    (b"rdel w a", 1, Why::Count),
+    (b"commit", 1, Why::Count),
+    (b"iter", 1, Why::Count),
+    (b"iter i lower", 1, Why::Count),
+    (b"iter i at s mask", 1, Why::Count),
+    (b"first", 1, Why::Count),
+    (b"first i j", 1, Why::Count),
+    (b"seekge i", 1, Why::Count),
+    (b"put W% a b", 1, Why::Name),
+    (b"put 1w a %", 1, Why::Name),
+    (b"iter i at s-t lower %", 1, Why::Name),
+    (b"snap aaaaaaaaaaaaaaaaaaaaaaaaaaaaaaaaa", 1, Why::Name),
+    (b"rset w a d %- %FF", 1, Why::Escape),
+    (b"seekge i %4", 1, Why::Escape),
+    (b"iter i lower @ mask %", 1, Why::Escape),
+    (b"seekge i %-", 1, Why::Key),
+    (b"iter i lower a upper a@0 mask x", 1, Why::Key),
+    (b"iter i at s mask %-", 1, Why::Suffix),
+    (b"iter i mask @05", 1, Why::Suffix),
+    (b"# x\nnext i", 2, Why::NoName),
+    (b"iter i\nsnap s\nrelease i", 3, Why::NoName),
+    (b"iter i\niter i at s", 2, Why::NoName),
+    (b"iter i\nclose i\nclose i", 3, Why::NoName),
+    (b"snap s\nrelease s\niter i at s", 3, Why::NoName),
+    (b"iter i\nsnap i\nput i a b\niter i", 4, Why::Taken),
+    (b"snap s\nsnap s", 2, Why::Taken),
+    (b"iter i\n\n \nfirst\nfrst i", 4, Why::Count),
+    (b"frst i\nput w a\tb", 1, Why::Word),
+    (b"put w a b\nput w a %\nput w", 2, Why::Escape),
+];
+
+#[test]
+fn the_first_bad_line_is_named(rt: HostRuntime) {
+    for (file, line, why) in BAD_FILES {
+        assert_eq!(rt; refusal(rt.alloc(), file), Some((line, why)), "of {file:?}");
+    }
 }
 
-fn events(alloc: Global, lines: &[Line]) -> Result<Vec<u8>, NoMemory> {
+// Files that are read, each with the numbers of its lines.
+const GOOD_FILES: [(&[u8], &[u64]); 8] = [
+    (b"", &[]),
+    (b"#\x01\xff x\n\n   ", &[]),
+    (b"  put  w a%20b x%00 \n\ndel w %-", &[1, 3]),
+    (
+        b"rset w a d %- foo\nrunset w d a @0\nrdel w @ %40\ncommit v\ncommit v\n",
+        &[1, 2, 3, 4, 5],
+    ),
+    (
+        b"snap x\nsnap y\nrelease x\niter x at y\nput x a b\nsnap x",
+        &[1, 2, 3, 4, 5, 6],
+    ),
+    (
+        b"iter i\nfirst i\nlast i\nnext i\nprev i\nseekge i a@5\nseeklt i b%00@9",
+        &[1, 2, 3, 4, 5, 6, 7],
+    ),
+    (
+        b"iter i\nclose i\niter i lower a@3 upper b mask @9",
+        &[1, 2, 3],
+    ),
+    (b"iter aaaaaaaaaaaaaaaaaaaaaaaaaaaaaaaa", &[1]),
+];
+
+fn numbers(alloc: Global, file: &[u8]) -> Result<Vec<u64>, ScriptError> {
+    let lines = read_script(alloc, file)?;
+    Ok(lines.iter().map(|line| line.number).collect(alloc)?)
+}
+
+#[test]
+fn lines_are_counted(rt: HostRuntime) -> Result<(), Fail> {
+    for (file, wanted) in GOOD_FILES {
+        assert_eq!(rt;
+            numbers(rt.alloc(), file)?.as_slice(),
+            wanted,
+            "of {file:?}"
+        );
+    }
+    Ok(())
+}
+
+// The bytes of a point set, and those of an iterator's options, one after the other.
+fn decoded(alloc: Global, line: &Line) -> Result<Vec<u8>, NoMemory> {
     let mut out = Vec::new(alloc);
-    for line in lines {
-        push_event(&mut out, &line.event)?;
+    match &line.event {
+        Event::Put { writer, key, value } => {
+            out.extend_from_slice(writer.bytes())?;
+            out.extend_from_slice(key.bytes())?;
+            out.extend_from_slice(value.bytes())?;
+        }
+        Event::Iter {
+            name,
+            at: Some(at),
+            lower: Some(lower),
+            upper: Some(upper),
+            mask: Some(mask),
+        } => {
+            out.extend_from_slice(name.bytes())?;
+            out.extend_from_slice(at.bytes())?;
+            out.extend_from_slice(lower.bytes())?;
+            out.extend_from_slice(upper.bytes())?;
+            out.extend_from_slice(mask.bytes())?;
+        }
+        _ => {}
     }
     Ok(out)
 }
 
-// The line that is refused.
-fn bad_line(alloc: Global, file: &[u8]) -> Option<u64> {
-    match read_script(alloc, file) {
-        Ok(_) => None,
-        Err(
-            ScriptError::BadLine {
-                line,
-                why: Why::Word,
-            },
-        ) => Some(line),
-        Err(ScriptError::Memory) => Some(0),
+#[test]
+fn words_are_decoded(rt: HostRuntime) -> Result<(), Fail> {
+    let alloc = rt.alloc();
+    let file = b"put w a%20b x%00\nsnap s\niter i at s lower a%7f upper b@7 mask %4018";
+    let mut wanted = [b"wa bx\x00".as_slice(), b"", b"isa\x7fb@7@18"].into_iter();
+    for line in &read_script(alloc, file)? {
+        assert_eq!(rt; Some(decoded(alloc, line)?.as_slice()), wanted.next());
     }
+    Ok(())
 }
 
 // Lines that differ by two letters after their first words, and the rest of a file.
-fn many_names(alloc: Global, words: &[u8], count: u8, rest: &[u8]) -> Result<Vec<u8>, NoMemory> {
-    let mut file = Vec::new(alloc);
-    for i in 0..count {
-        file.extend_from_slice(words)?;
-        file.extend_from_slice(&[b'a' + i / 26, b'a' + i % 26])?;
-        file.extend_from_slice(rest)?;
-    }
-    Ok(file)
-}
-
-// The same bytes many times over, between others.
-fn many(
+fn many_names(
     alloc: Global,
-    first: &[u8],
-    piece: &[u8],
-    count: u32,
+    verb: &[u8],
+    count: u16,
+    rest: &[u8],
     last: &[u8],
 ) -> Result<Vec<u8>, NoMemory> {
-    let mut file = first.to_vec(alloc)?;
-    for _ in 0..count {
-        file.extend_from_slice(piece)?;
+    let mut file = Vec::new(alloc);
+    for i in 0..count {
+        file.extend_from_slice(verb)?;
+        for digit in [i / 676 % 26, i / 26 % 26, i % 26] {
+            file.push(b'a' + digit as u8)?;
+        }
+        file.extend_from_slice(rest)?;
     }
     file.extend_from_slice(last)?;
     Ok(file)
 }
 
 #[test]
-fn a_file_is_read(rt: HostRuntime) -> Result<(), Fail> {
+fn limits_are_kept(rt: HostRuntime) -> Result<(), Fail> {
     let alloc = rt.alloc();
-    let file =
-        b"rset w a d %- foo\n\n#\x01\xff x\n  commit  w \niter i\n   \nrset w d%e9 %7f @5 %20%25\nfirst i\nnext i";
-    let lines = read_script(alloc, file)?;
-    let printed = b" rset w a d %- foo commit w iter i rset w d%e9 %7f @5 %20%25 first i next i";
-    assert_eq!(rt; events(alloc, &lines)?.as_slice(), printed.as_slice());
-    let numbers: Vec<u64> = lines.iter().map(|line| line.number).collect(alloc)?;
-    assert_eq!(rt; numbers.as_slice(), [1, 4, 5, 7, 8, 9].as_slice());
+    let too_many = |line| Some((line, Why::TooMany));
+    let files = [
+        (
+            many_names(alloc, b"del ", 64, b" k\n", b"commit aaa")?,
+            None,
+        ),
+        (
+            many_names(alloc, b"del ", 64, b" k\n", b"commit b")?,
+            too_many(65),
+        ),
+        (
+            many_names(alloc, b"iter ", 100, b"\n", b"close aab\niter b")?,
+            None,
+        ),
+        (
+            many_names(alloc, b"iter ", 100, b"\n", b"iter b")?,
+            too_many(101),
+        ),
+        (
+            many_names(alloc, b"snap ", 1000, b"\n", b"release aab\nsnap b")?,
+            None,
+        ),
+        (
+            many_names(alloc, b"snap ", 1000, b"\n", b"snap b")?,
+            too_many(1001),
+        ),
+    ];
+    for (file, wanted) in &files {
+        assert_eq!(rt; refusal(alloc, file), *wanted);
+    }
     Ok(())
 }
 
 #[test]
-fn the_first_bad_line_is_named(rt: HostRuntime) {
+fn the_first_of_a_name_is_found(rt: HostRuntime) -> Result<(), Fail> {
     let alloc = rt.alloc();
-    let files = [
-        (b"put w a p".as_slice(), 1),
-        (b"# x\nnext i".as_slice(), 2),
-        (b"iter i\nfrst i\nfrst i".as_slice(), 2),
-        (b"iter i\niter i".as_slice(), 2),
-        (b"iter i\nnext i j".as_slice(), 2),
-        (b"iter aaaaaaaaaaaaaaaaaaaaaaaaaaaaaaaaa".as_slice(), 1),
-        (b"iter 1a".as_slice(), 1),
-        (b"#\x01\niter i\x01".as_slice(), 2),
-        (b"rset w a d %- %FF".as_slice(), 1),
-        (b"rset w a d %- x%f".as_slice(), 1),
-        (b"rset w d d %- v".as_slice(), 1),
-        (b"rset w a@1 d %- v".as_slice(), 1),
-        (b"rset w a d @0 v".as_slice(), 1),
-        (b"rset w a d %-".as_slice(), 1),
-        (b"rset w a d %- v\ncommit w\ncommit w".as_slice(), 3),
-        (b"rset w a d %- v\ncommit v".as_slice(), 2),
+    let names = [
+        Bytes::from_slice(alloc, b"a")?,
+        Bytes::from_slice(alloc, b"b")?,
+        Bytes::from_slice(alloc, b"b")?,
     ];
-    for (file, line) in files {
-        assert_eq!(rt; bad_line(alloc, file), Some(line), "of {file:?}");
-    }
-    assert_eq!(rt;
-        bad_line(alloc, b"iter aaaaaaaaaaaaaaaaaaaaaaaaaaaaaaaa"),
-        None
-    );
-}
-
-#[test]
-fn limits_are_kept(rt: HostRuntime) -> Result<(), Fail> {
-    let alloc = rt.alloc();
-    let set = b" a b %- v\n";
-    assert_eq!(rt;
-        bad_line(alloc, &many_names(alloc, b"rset ", 64, set)?),
-        None
-    );
-    assert_eq!(rt;
-        bad_line(alloc, &many_names(alloc, b"rset ", 66, set)?),
-        Some(65)
-    );
-    assert_eq!(rt;
-        bad_line(alloc, &many_names(alloc, b"iter ", 100, b"\n")?),
-        None
-    );
-    assert_eq!(rt;
-        bad_line(alloc, &many_names(alloc, b"iter ", 102, b"\n")?),
-        Some(101)
-    );
-    let sets = b"rset w a b %- v\n";
-    let full = many(alloc, b"", sets, 1000, b"commit w\nrset w a b %- v")?;
-    assert_eq!(rt; bad_line(alloc, &full), None);
-    assert_eq!(rt;
-        bad_line(alloc, &many(alloc, b"", sets, 1002, b"")?),
-        Some(1001)
-    );
-    assert_eq!(rt;
-        bad_line(alloc, &many(alloc, b"rset w a b %- ", b"v", 32768, b"")?),
-        None
-    );
-    assert_eq!(rt;
-        bad_line(alloc, &many(alloc, b"rset w a b %- ", b"v", 32769, b"")?),
-        Some(1)
-    );
+    assert_eq!(rt; find(&names, b"b"), Some(1));
+    assert_eq!(rt; find(&names, b"c"), None);
+    assert_eq!(rt; names[0].name(), b"a".as_slice());
     Ok(())
 }
 

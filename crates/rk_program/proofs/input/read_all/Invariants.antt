@@ -1,4 +1,4 @@
-use Rattle.std.proofs.Common.{◌+◌, ◌-◌, ◌≤◌, vec_len}
+use Rattle.std.proofs.Common.{◌≡◌, ◌+◌, ◌-◌, ◌≤◌, vec_len}
 use Rattle.std.specs.Io.KnownBytes.{Consumes}
 use Rattle.rk_program.specs.Input.{most_file_bytes}
 use Rattle.rk_program.proofs.input.read_all.Given as goal
@@ -7,7 +7,7 @@ use Rattle.rk_program.proofs.input.read_all.Given as goal
 abbrev pub invariant-loop-file : goal.invariant-loop-file
 invariant-loop-file g l = record {
   given : Consumes (g.S.Source.left l.initial.source) (g.S.Source.left l.source) l.file.items;
-  later : g.S.Source.fault_count l.initial.source ≤ g.S.Source.fault_count l.source;
+  no_fault : g.S.Source.fault_count l.source ≡ g.S.Source.fault_count l.initial.source;
   within : vec_len l.file ≤ most_file_bytes + 1;
 }
 

@@ -1,12 +1,12 @@
 use Rattle.rk_program.proofs.OutputLemmas.{IsWritten-more, IsWritten-part, IsWritten-kept}
-use Rattle.std.proofs.Common.{arith, ap}
+use Rattle.std.proofs.Common.{ap, ◌∙◌}
 use Rattle.std.specs.Prelude.{Err}
 use Rattle.rk_program.proofs.output.write_all.Goals as goal
 
 pub loop-rest-preserved : goal.loop-rest-preserved
 loop-rest-preserved g c = record {
   written = rw c.split_at.ensures.back (IsWritten-more _ _ _ _ _ _ c.loop-rest.invariant.written c.in-Ok.ensures.ok);
-  later = omega (arith, c.in-Ok.ensures.cause.later);
+  no_fault = c.in-Ok.ensures.cause.kept ∙ c.loop-rest.invariant.no_fault;
 }
 
 pub returns-in-Err-Memory-clause-part : goal.returns-in-Err-Memory-clause-part

@@ -1,4 +1,4 @@
-use Rattle.std.proofs.Common.{◌≤◌, length}
+use Rattle.std.proofs.Common.{◌≡◌, length}
 use Rattle.rk_program.proofs.OutputLemmas.{IsWritten}
 use Rattle.rk_program.proofs.output.write_all.Given as goal
 
@@ -6,7 +6,7 @@ use Rattle.rk_program.proofs.output.write_all.Given as goal
 abbrev pub invariant-loop-rest : goal.invariant-loop-rest
 invariant-loop-rest g l = record {
   written : IsWritten (g.K.Sink.written l.initial.sink) (g.K.Sink.written l.sink) l.bytes l.rest;
-  later : g.K.Sink.fault_count l.initial.sink ≤ g.K.Sink.fault_count l.sink;
+  no_fault : g.K.Sink.fault_count l.sink ≡ g.K.Sink.fault_count l.initial.sink;
 }
 
 abbrev pub decreases-loop-rest : goal.decreases-loop-rest

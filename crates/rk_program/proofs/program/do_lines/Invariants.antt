@@ -1,4 +1,4 @@
-use Rattle.std.proofs.Common.{◌≤◌, take, drop}
+use Rattle.std.proofs.Common.{◌≡◌, take, drop}
 use Rattle.rk_program.proofs.Transcripts.{SoFar}
 use Rattle.rk_program.proofs.program.do_lines.Given as goal
 
@@ -6,5 +6,5 @@ use Rattle.rk_program.proofs.program.do_lines.Given as goal
 abbrev pub invariant-loop-line : goal.invariant-loop-line
 invariant-loop-line g l = record {
   so_far : SoFar l.session (g.K.Sink.written l.initial.sink) (g.K.Sink.written l.sink) (take l.line-index l.lines) (drop l.line-index l.lines);
-  later : g.K.Sink.fault_count l.initial.sink ≤ g.K.Sink.fault_count l.sink;
+  no_fault : g.K.Sink.fault_count l.sink ≡ g.K.Sink.fault_count l.initial.sink;
 }

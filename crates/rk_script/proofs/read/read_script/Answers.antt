@@ -6,6 +6,14 @@ use Rattle.rk_script.specs.Words.{lines, line_end}
 use Rattle.rk_script.proofs.Reading.{skips, takes, stops, ends}
 use Rattle.rk_script.proofs.read.read_script.Goals as goal
 
+pub loop-line-preserved : goal.loop-line-preserved
+loop-line-preserved c =
+    let turn = YieldsList-turn (YieldsList-from_slice_split _ (λ b. b == line_end) c.args.bytes.now (cc) (cc) (cc) (λ x b q k. search (rules, tests))) c.loop-line.yielded _ c.loop-line.yielded_by _ _ c.in-Some.line c.in-Some.is c.next.ensures.steps in
+    record {
+      counted = omega (arith, length_push c.loop-line.yielded c.in-Some.line, c.loop-line.invariant.counted);
+      read = takes c.loop-line.lines.items _ c.loop-line.names _ (lines c.args.bytes.now) c.loop-line.number _ c.in-Some.line.now c.in-Ok.event _ c.loop-line.invariant.counted turn (sym c.is_skipped.ensures ∙ c.if-is_skipped.false) (sym c.in-Ok.is ∙ c.in_ok-event.ensures) c.in_ok-add-in-Ok.ensures c.in_ok-push-in-Ok.ensures.items c.loop-line.invariant.read;
+    }
+
 pub loop-line-preserved-then-is_skipped : goal.loop-line-preserved-then-is_skipped
 loop-line-preserved-then-is_skipped c =
     let turn = YieldsList-turn (YieldsList-from_slice_split _ (λ b. b == line_end) c.args.bytes.now (cc) (cc) (cc) (λ x b q k. search (rules, tests))) c.loop-line.yielded _ c.loop-line.yielded_by _ _ c.in-Some.line c.in-Some.is c.next.ensures.steps in
@@ -14,18 +22,10 @@ loop-line-preserved-then-is_skipped c =
       read = skips _ _ (lines c.args.bytes.now) _ _ c.in-Some.line.now _ c.loop-line.invariant.counted turn (sym c.is_skipped.ensures ∙ c.if-is_skipped.true) c.loop-line.invariant.read;
     }
 
-pub returns-in_default-clause-bad : goal.returns-in_default-clause-bad
-returns-in_default-clause-bad c =
+pub returns-in-Err-clause-bad : goal.returns-in-Err-clause-bad
+returns-in-Err-clause-bad c =
     let turn = YieldsList-turn (YieldsList-from_slice_split _ (λ b. b == line_end) c.args.bytes.now (cc) (cc) (cc) (λ x b q k. search (rules, tests))) c.loop-line.yielded _ c.loop-line.yielded_by _ _ c.in-Some.line c.in-Some.is c.next.ensures.steps in
-    stops c.loop-line.lines.items c.loop-line.names (lines c.args.bytes.now) c.loop-line.number _ c.in-Some.line.now _ c.loop-line.invariant.counted turn (sym c.is_skipped.ensures ∙ c.if-is_skipped.false) (sym c.in_default.is ∙ c.in_ok-event.ensures.event) c.loop-line.invariant.read
-
-pub loop-line-preserved : goal.loop-line-preserved
-loop-line-preserved c =
-    let turn = YieldsList-turn (YieldsList-from_slice_split _ (λ b. b == line_end) c.args.bytes.now (cc) (cc) (cc) (λ x b q k. search (rules, tests))) c.loop-line.yielded _ c.loop-line.yielded_by _ _ c.in-Some.line c.in-Some.is c.next.ensures.steps in
-    record {
-      counted = omega (arith, length_push c.loop-line.yielded c.in-Some.line, c.loop-line.invariant.counted);
-      read = takes c.loop-line.lines.items _ c.loop-line.names _ (lines c.args.bytes.now) c.loop-line.number _ c.in-Some.line.now c.in-Some-2.event _ c.loop-line.invariant.counted turn (sym c.is_skipped.ensures ∙ c.if-is_skipped.false) (sym c.in-Some-2.is ∙ c.in_ok-event.ensures.event) c.in_ok-add.ensures c.in_ok-push.ensures.items c.loop-line.invariant.read;
-    }
+    stops c.loop-line.lines.items c.loop-line.names (lines c.args.bytes.now) c.loop-line.number _ c.in-Some.line.now c.in-Err.why _ c.loop-line.invariant.counted turn (sym c.is_skipped.ensures ∙ c.if-is_skipped.false) (sym c.in-Err.is ∙ c.in_ok-event.ensures) c.loop-line.invariant.read
 
 pub returns-clause-lines : goal.returns-clause-lines
 returns-clause-lines c =

@@ -1,28 +1,39 @@
-use Rattle.std.proofs.Common.{[], arith, ap, sym, ◌∙◌, refl}
+use Rattle.std.proofs.Common.{◌+◌, ◌++◌, length, arith, ap, sym, ◌∙◌, refl}
 use Rattle.std.proofs.lemmas.Result.{IfOk-weaker}
-use Rattle.rk_program.proofs.BatchLemmas.{writer_name, batch-found, batches-set}
-use Rattle.rk_program.proofs.LineLemmas.{writer_is_there, commit_does, said_committed}
-use Rattle.rk_program.proofs.Naming.{IsFirst-of, absent_in}
+use Rattle.rk_model.specs.Named.{with_named}
+use Rattle.rk_model.specs.Operations.{numbered}
+use Rattle.rk_machine.specs.Machine.{EmptyBatch}
+use Rattle.rk_program.specs.Replies.{reply_text}
+use Rattle.rk_program.specs.Standing.{batches}
+use Rattle.rk_program.proofs.BatchLemmas.{writer_name, writer_batch, refused_does, commit_does, said_committed}
 use Rattle.rk_program.proofs.session.Session.commit.Goals as goal
 
-pub unreachable-requires : goal.unreachable-requires
-unreachable-requires c =
-    writer_is_there c.args.self.now c.args.writer.now c.requires
-    (absent_in writer_name c.args.self.now.writers.items c.deref.result.now c.args.writer.now c.bytes.result.now
-    c.deref.ensures.value c.bytes.ensures c.in_default.ensures.absent)
+pub returns-then-count-eq0 : goal.returns-then-count-eq0
+returns-then-count-eq0 c =
+    let x = c.index_mut.result.now in
+    let place = c.in_ok-i.ensures in
+    λ s stands. IfOk-weaker c.empty_batch.result _ _
+    (λ text said. refused_does c.args.self.now _ c.args.writer.now x.batch text.items s stands refl refl refl
+    (place.put x (ap writer_name c.index_mut.ensures.value ∙ place.called x))
+    (ap writer_batch c.index_mut.ensures.value ∙ place.batch x)
+    (sym c.count.ensures ∙ c.if-count-eq0.true)
+    (said ∙ ap (λ n. reply_text n EmptyBatch) c.bytes.ensures))
+    c.empty_batch.ensures
 
 pub returns : goal.returns
 returns c =
-    let first = IsFirst-of writer_name c.args.self.now.writers.items c.deref.result.now c.args.writer.now c.bytes.result.now c.in-Some.i
-    c.deref.ensures.value c.bytes.ensures c.in-Some.ensures.within c.in-Some.ensures.first c.in-Some.ensures.here in
+    let x = c.index_mut.result.now in
+    let old = c.args.self.now.entries.items in
+    let place = c.in_ok-i.ensures in
+    let more = c.in_ok-append.ensures ∙ ap (λ ops. old ++ numbered (length old + 1) ops) c.ops.ensures in
     λ s stands. IfOk-weaker c.committed.result _ _
-    (λ text said. commit_does c.args.self.now _ c.args.writer.now c.replace-batch.result.items text.items s stands c.requires
-    (batch-found c.args.self.now.writers.items c.args.writer.now c.in-Some.i c.index_mut.result.now first c.index_mut.ensures.value
-    ∙ ap (λ v. v.items) (sym c.replace-batch.ensures.value))
-    c.in_ok-append.ensures
-    (batches-set c.args.self.now.writers.items c.args.writer.now c.in-Some.i c.index_mut.result.now _ [] first c.index_mut.ensures.value refl
-    (ap (λ v. v.items) c.replace-batch.ensures.after ∙ c.new.ensures.items))
-    refl
-    (said_committed c.args.writer.now c.bytes-2.result.now _ _ c.args.self.now.entries.items c.append.new.entries.items c.replace-batch.result.items text.items
-    said c.bytes-2.ensures (omega (arith, c.len-first.ensures)) (omega (arith, c.len.ensures)) c.in_ok-append.ensures))
+    (λ text said. commit_does c.args.self.now _ c.args.writer.now x.batch text.items s stands
+    (ap writer_batch c.index_mut.ensures.value ∙ place.batch x)
+    (omega (arith, c.count.ensures, c.if-count-eq0.false))
+    more
+    (place.put (record { name = x.name; batch = c.clear.new.self }) (ap writer_name c.index_mut.ensures.value ∙ place.called x)
+    ∙ ap (λ b. with_named c.args.writer.now b (batches c.args.self.now.writers.items)) c.clear.ensures)
+    refl refl
+    (said_committed c.args.writer.now c.bytes-2.result.now _ _ old c.append.new.entries.items x.batch text.items
+    said c.bytes-2.ensures (omega (arith, c.len.ensures)) (omega (arith, c.len-last.ensures)) more))
     c.committed.ensures

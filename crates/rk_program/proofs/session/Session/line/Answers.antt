@@ -1,22 +1,20 @@
-use Rattle.std.proofs.Common.{ap, ◌∙◌, refl}
-use Rattle.rk_program.specs.Standing.{batches, with_op}
-use Rattle.rk_program.proofs.LineLemmas.{range_set_does}
+use Rattle.std.proofs.Common.{rules}
+use Rattle.rk_program.proofs.Accepted.{release_live, close_live, iter_free, iter_live, move_live}
 use Rattle.rk_program.proofs.session.Session.line.Goals as goal
 
-pub returns-in_ok-add-in-RangeSet : goal.returns-in_ok-add-in-RangeSet
-returns-in_ok-add-in-RangeSet c =
-    let writer = c.in-RangeSet.writer in
-    let added = c.in_ok-add-in-RangeSet.ensures ∙ ap (λ op. with_op writer op (batches c.args.self.now.writers.items)) c.in_ok-op-in-RangeSet.ensures in
-    λ s stands. rw (c.in-RangeSet.is, c.new.ensures.items) (range_set_does c.args.self.now _ writer _ _ _ _ s stands refl added refl)
+pub release-requires : goal.release-requires
+release-requires c = record { live = release_live c.args.self.now c.in-Release.name (rw c.in-Release.is at c.requires.accepted) }
 
-pub returns-in-Commit : goal.returns-in-Commit
-returns-in-Commit c = λ s stands. rw c.in-Commit.is (c.commit.ensures s stands)
+pub open-requires-clause-free : goal.open-requires-clause-free
+open-requires-clause-free c =
+    iter_free c.args.self.now c.in-Iter.name c.in-Iter.at c.in-Iter.lower c.in-Iter.upper c.in-Iter.mask (rw c.in-Iter.is at c.requires.accepted)
 
-pub returns-in-Iter : goal.returns-in-Iter
-returns-in-Iter c = λ s stands. rw c.in-Iter.is (c.open.ensures s stands)
+pub open-requires-clause-live : goal.open-requires-clause-live
+open-requires-clause-live c =
+    iter_live c.args.self.now c.in-Iter.name c.in-Iter.at c.in-Iter.lower c.in-Iter.upper c.in-Iter.mask (rw c.in-Iter.is at c.requires.accepted)
 
-pub returns-in-First : goal.returns-in-First
-returns-in-First c = λ s stands. rw c.in-First.is (c.first.ensures s stands)
+pub close-requires : goal.close-requires
+close-requires c = record { live = close_live c.args.self.now c.in-Close.iter (rw c.in-Close.is at c.requires.accepted) }
 
-pub returns-in-Next : goal.returns-in-Next
-returns-in-Next c = λ s stands. rw c.in-Next.is (c.next.ensures s stands)
+pub step-requires-clause-live : goal.step-requires-clause-live
+step-requires-clause-live c = move_live c.args.self.now c.args.line.now.event c.in-First.iter (search rules) c.requires.accepted

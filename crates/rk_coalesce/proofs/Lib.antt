@@ -1,0 +1,5 @@
+pub mod EachKey
+mod Examples
+pub mod Shadows
+pub mod Sorting
+pub mod Standing

@@ -1,0 +1,3 @@
+pub mod SpanKeys
+pub mod Places
+pub mod Numbers

@@ -1,0 +1,8 @@
+pub mod Order
+pub mod Rising
+pub mod Over
+pub mod Exact
+pub mod Parts
+pub mod Falling
+pub mod Sound
+mod Examples

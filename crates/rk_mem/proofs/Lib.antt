@@ -1,0 +1,4 @@
+pub mod Numbers
+pub mod Sorting
+pub mod Split
+mod Examples

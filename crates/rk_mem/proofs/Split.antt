@@ -1,0 +1,132 @@
+-- A chunk's points and its range entries.
+use Rattle.std.proofs.Common.{◌≡◌, ℕ, Bool, true, false, cond, List, [], ◌∷◌, ◌++◌, Some, None, filter, drop, refl, sym, ap, ◌∙◌}
+use Rattle.std.specs.Prelude.{not, IsTrue}
+use Rattle.std.specs.List.{AllByRecursion, list_all, filter_map, flat_map, cons_option, zip}
+use Rattle.std.specs.List.Sorted.{IsPermutation}
+use Rattle.std.specs.Ordering.{is_lt}
+use Rattle.std.proofs.lemmas.Bool.{and_parts, not-true}
+use Rattle.std.proofs.lemmas.List.{append-nil}
+use Rattle.std.proofs.lemmas.List.Elements.{filter-append}
+use Rattle.std.proofs.lemmas.List.Sorted.{IsPermutation-refl, IsPermutation-trans, IsPermutation-append, IsPermutation-filter_both}
+use Rattle.rk_model.specs.Operations.{is_over}
+use Rattle.rk_model.specs.Covers.{is_point, over}
+use Rattle.rk_model.specs.Spans.{op_ends, sorted_keys}
+use Rattle.rk_model.specs.Sources.{ascends, entry_cmp, are_points, are_spans, sound_spans}
+use Rattle.rk_model.specs.declared.op.Op.{Op}
+use Rattle.rk_model.specs.declared.op.Op.TheVariants.{Put, Del, RangeSet, RangeUnset, RangeDel}
+use Rattle.rk_model.specs.declared.op.Entry.{Entry}
+use Rattle.rk_model.specs.declared.span.RangeKey.{RangeKey}
+use Rattle.rk_fragment.specs.Fragments.{range_key, newest_first, span_with, fragments, NumbersDiffer}
+use Rattle.rk_fragment.proofs.Rising.{all_weaker}
+use Rattle.rk_fragment.proofs.Sound.{sound}
+use Rattle.rk_mem.specs.Chunks.{points_of, ranges_of, NumbersRise, IsChunkOf}
+use Rattle.rk_mem.specs.SortedOut.{AreSortedOut}
+use Rattle.rk_mem.proofs.Numbers.{some_differ, rising_differ}
+
+filter_all : {X : Type 0} (t : X → Bool) (xs : List X) → AllByRecursion (λ x. t x ≡ true) xs → filter t xs ≡ xs
+filter_all t [] h = refl
+filter_all t (x ∷ xs) h = rw h.0 (ap (λ l. x ∷ l) (filter_all t xs h.1))
+
+filter_none : {X : Type 0} (t : X → Bool) (xs : List X) → AllByRecursion (λ x. t x ≡ false) xs → filter t xs ≡ []
+filter_none t [] h = refl
+filter_none t (x ∷ xs) h = rw h.0 (filter_none t xs h.1)
+
+all_true : {X : Type 0} (t : X → Bool) (xs : List X) → list_all t xs ≡ true → AllByRecursion (λ x. t x ≡ true) xs
+all_true t [] h = tt
+all_true t (x ∷ xs) h = let parts = and_parts (t x) (list_all t xs) h in (parts.0, all_true t xs parts.1)
+
+pub passed : {X : Type 0} (t : X → Bool) (xs : List X) → AllByRecursion (λ x. t x ≡ true) (filter t xs)
+passed t [] = tt
+passed t (x ∷ xs) = go (t x) refl (passed t xs)
+  where
+    go : (b : Bool) → t x ≡ b → AllByRecursion (λ x. t x ≡ true) (filter t xs) → AllByRecursion (λ x. t x ≡ true) (cond b (x ∷ filter t xs) (filter t xs))
+    go true e ih = (e, ih)
+    go false e ih = ih
+
+pub filter_again : {X : Type 0} (t : X → Bool) (xs : List X) → filter t (filter t xs) ≡ filter t xs
+filter_again t xs = filter_all t (filter t xs) (passed t xs)
+
+-- points, and range entries behind them
+module _ (points ranges : List Entry) (in_order : IsTrue (are_points points)) (no_points : AllByRecursion (λ e. is_point e.op ≡ false) ranges) where
+  are_all_points : AllByRecursion (λ e. is_point e.op ≡ true) points
+  are_all_points = all_true (λ e. is_point e.op) points (and_parts (list_all (λ e. is_point e.op) points) (ascends (λ e f. is_lt (entry_cmp e f)) points) in_order).0
+
+  pub points_are : points_of (points ++ ranges) ≡ points
+  points_are =
+      filter-append (λ e. is_point e.op) points ranges
+      ∙ (λ i. filter_all (λ e. is_point e.op) points are_all_points i ++ filter_none (λ e. is_point e.op) ranges no_points i)
+      ∙ append-nil points
+
+  pub ranges_are : ranges_of (points ++ ranges) ≡ ranges
+  ranges_are =
+      filter-append (λ e. not (is_point e.op)) points ranges
+      ∙ (λ i. filter_none (λ e. not (is_point e.op)) points (all_weaker (λ e. is_point e.op ≡ true) (λ e. not (is_point e.op) ≡ false) (λ e h. ap not h) points are_all_points) i
+      ++ filter_all (λ e. not (is_point e.op)) ranges (all_weaker (λ e. is_point e.op ≡ false) (λ e. not (is_point e.op) ≡ true) (λ e h. ap not h) ranges no_points) i)
+
+no_points_in : (es : List Entry) → AllByRecursion (λ e. is_point e.op ≡ false) (ranges_of es)
+no_points_in es = all_weaker (λ e. not (is_point e.op) ≡ true) (λ e. is_point e.op ≡ false) (λ e h. not-true (is_point e.op) h) (ranges_of es) (passed (λ e. not (is_point e.op)) es)
+
+pub sorted_out : (es points : List Entry) → NumbersRise es → IsTrue (are_points points) → AreSortedOut points (ranges_of es)
+sorted_out es points rise order = record { in_order = order; no_points = no_points_in es; differ = some_differ (λ e. not (is_point e.op)) es (rising_differ es rise) }
+
+pub chunk_is : (es points : List Entry) → IsPermutation (points_of es) points → IsTrue (are_points points) → IsChunkOf es (points ++ ranges_of es)
+chunk_is es points same order =
+    let p : points_of (points ++ ranges_of es) ≡ points = points_are points (ranges_of es) order (no_points_in es) in
+    let r : ranges_of (points ++ ranges_of es) ≡ ranges_of es = ranges_are points (ranges_of es) order (no_points_in es) in
+    record {
+      same = IsPermutation-trans es (points_of es ++ ranges_of es) (points ++ ranges_of es) (IsPermutation-filter_both (λ e. is_point e.op) (λ e. not (is_point e.op)) (λ e. refl) es) (IsPermutation-append (points_of es) points (ranges_of es) (ranges_of es) same (IsPermutation-refl (ranges_of es)));
+      parts = sym (λ i. p i ++ r i);
+      in_order = rw p order;
+      ranges = r;
+    }
+
+-- Points make no spans.
+point_has_no_ends : (op : Op) → is_point op ≡ true → op_ends op ≡ []
+point_has_no_ends (Put key value) h = refl
+point_has_no_ends (Del key) h = refl
+point_has_no_ends (RangeSet start end suffix value) h = cc
+point_has_no_ends (RangeUnset start end suffix) h = cc
+point_has_no_ends (RangeDel start end) h = cc
+
+point_has_no_key : (n : ℕ) (op : Op) → is_point op ≡ true → range_key n op ≡ None
+point_has_no_key n (Put key value) h = refl
+point_has_no_key n (Del key) h = refl
+point_has_no_key n (RangeSet start end suffix value) h = cc
+point_has_no_key n (RangeUnset start end suffix) h = cc
+point_has_no_key n (RangeDel start end) h = cc
+
+ends_of_ranges : (es : List Entry) → flat_map (λ e. op_ends e.op) (ranges_of es) ≡ flat_map (λ e. op_ends e.op) es
+ends_of_ranges [] = refl
+ends_of_ranges (e ∷ es) = go (is_point e.op) refl (ends_of_ranges es)
+  where
+    rest : List (List ℕ)
+    rest = flat_map (λ e. op_ends e.op) es
+
+    go : (b : Bool) → is_point e.op ≡ b → flat_map (λ e. op_ends e.op) (ranges_of es) ≡ flat_map (λ e. op_ends e.op) es
+        → flat_map (λ e. op_ends e.op) (cond (not b) (e ∷ ranges_of es) (ranges_of es)) ≡ op_ends e.op ++ flat_map (λ e. op_ends e.op) es
+    go true h ih = ih ∙ rw (point_has_no_ends e.op h) refl
+    go false h ih = ap (λ l. op_ends e.op ++ l) ih
+
+abbrev keys_of : List Entry → List RangeKey
+keys_of es = filter_map (λ e. range_key e.seq e.op) es
+
+keys_of_ranges : (es : List Entry) (x : List ℕ) → keys_of (over x (ranges_of es)) ≡ keys_of (over x es)
+keys_of_ranges [] x = refl
+keys_of_ranges (e ∷ es) x = go (is_point e.op) refl (is_over x e.op) refl (keys_of_ranges es x)
+  where
+    go : (b : Bool) → is_point e.op ≡ b → (o : Bool) → is_over x e.op ≡ o → keys_of (over x (ranges_of es)) ≡ keys_of (over x es)
+        → keys_of (over x (cond (not b) (e ∷ ranges_of es) (ranges_of es))) ≡ keys_of (cond o (e ∷ over x es) (over x es))
+    go true h true k ih = ih ∙ rw (point_has_no_key e.seq e.op h) refl
+    go true h false k ih = ih
+    go false h true k ih = rw k (ap (cons_option (range_key e.seq e.op)) ih)
+    go false h false k ih = rw k ih
+
+pub fragments_of_ranges : (es : List Entry) → fragments (ranges_of es) ≡ fragments es
+fragments_of_ranges es =
+    (λ i. let ends = sorted_keys (ends_of_ranges es i) in filter_map (λ ab. span_with ab.0 ab.1 (newest_first (keys_of_ranges es ab.0 i))) (zip ends (drop 1 ends)))
+
+pub sound_fragments : (es : List Entry) → NumbersDiffer (ranges_of es) → sound_spans (fragments es) ≡ Some (fragments es)
+sound_fragments es differ =
+    let sound_ranges : are_spans (fragments (ranges_of es)) ≡ true = sound (ranges_of es) differ in
+    let sound_all : are_spans (fragments es) ≡ true = ap are_spans (sym (fragments_of_ranges es)) ∙ sound_ranges in
+    rw sound_all refl

@@ -1,0 +1,27 @@
+use Rattle.std.specs.List.Sorted.{IsPermutation}
+use Rattle.rk_model.specs.Covers.{is_point}
+use Rattle.rk_mem.specs.Chunks.{points_of}
+use Rattle.rk_mem.proofs.Numbers.{rising_differ, some_differ}
+use Rattle.rk_mem.proofs.Split.{filter_again, sorted_out, chunk_is}
+use Rattle.rk_mem.proofs.chunk.Chunk.new.Goals as goal
+
+pub sort-requires-clause-differ : goal.sort-requires-clause-differ
+sort-requires-clause-differ c =
+    let es = c.args.entries.now in
+    rw c.in_ok-points.ensures (some_differ (λ e. is_point e.op) es (rising_differ es c.requires))
+
+pub sort-requires-clause-points : goal.sort-requires-clause-points
+sort-requires-clause-points c =
+    let es = c.args.entries.now in
+    rw c.in_ok-points.ensures (filter_again (λ e. is_point e.op) es)
+
+pub invariant_of-result : goal.invariant_of-result
+invariant_of-result c =
+    rw c.in_ok-ranges.ensures (sorted_out c.args.entries.now c.sort.new.points.items c.requires c.in_ok-sort.ensures.in_order)
+
+pub returns : goal.returns
+returns c =
+    let es = c.args.entries.now in
+    let points = c.sort.new.points.items in
+    let same : IsPermutation (points_of es) points = rw c.in_ok-points.ensures at c.sort.ensures.same in
+    rw c.in_ok-ranges.ensures (chunk_is es points same c.in_ok-sort.ensures.in_order)

@@ -1,0 +1,6 @@
+use Rattle.std.proofs.Common.{◌≡◌, take}
+use Rattle.rk_mem.specs.Chunks.{points_of}
+use Rattle.rk_mem.proofs.order.copy_points.Given as goal
+
+abbrev pub invariant-loop-entry : goal.invariant-loop-entry
+invariant-loop-entry l = l.points.items ≡ points_of (take l.entry-index l.entries)

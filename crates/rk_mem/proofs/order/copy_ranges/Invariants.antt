@@ -1,0 +1,6 @@
+use Rattle.std.proofs.Common.{◌≡◌, take}
+use Rattle.rk_mem.specs.Chunks.{ranges_of}
+use Rattle.rk_mem.proofs.order.copy_ranges.Given as goal
+
+abbrev pub invariant-loop-entry : goal.invariant-loop-entry
+invariant-loop-entry l = l.ranges.items ≡ ranges_of (take l.entry-index l.entries)

@@ -1,0 +1,2 @@
+//! The law of merging sorted lists.
+#![tactic(auto)]

@@ -1,0 +1,31 @@
+use Rattle.std.proofs.Common.{◌∙◌, sym, ap, Some, refl}
+use Rattle.std.specs.Option.{option_copied}
+use Rattle.rk_model.specs.SourceLaws.{Same-trans}
+use Rattle.rk_model.specs.Sources.{points_below, point_lt, prev_place}
+use Rattle.rk_model.proofs.Readings.{passed, passed-cut, steps_back, one_more, none_left, nothing_read, copied_here, nowhere, fewer_behind}
+use Rattle.rk_model.proofs.both_ways.points_before.Goals as goal
+
+pub loop-entry-preserved : goal.loop-entry-preserved
+loop-entry-preserved g c =
+    let is = ap option_copied c.in-Some.is ∙ ap Some (sym c.in_ok-copy.ensures) in
+    let here = copied_here _ _ _ c.in_ok-copy.field-0 c.here.ensures.told is in
+    record {
+      same = Same-trans c.loop-entry.invariant.same c.in_ok-prev.ensures.goes.same;
+      within = c.in_ok-prev.ensures.goes.within;
+      reading = rw c.in_ok-push.ensures.items (one_more _ passed (λ xs place. prev_place place) steps_back _ _ _ _ c.loop-entry.points.items c.in_ok-copy.field-0 c.loop-entry.invariant.same.held_is c.loop-entry.invariant.reading here c.in_ok-prev.ensures.goes.there);
+    }
+
+pub loop-entry-init : goal.loop-entry-init
+loop-entry-init g c = record {
+  same = c.in_ok-seek_lt.ensures.goes.same;
+  within = c.in_ok-seek_lt.ensures.goes.within;
+  reading = nothing_read _ passed (point_lt c.args.key.now) (λ es. passed-cut (points_below c.args.key.now es) es) _ _ _ c.new-points.ensures.items c.in_ok-seek_lt.ensures.goes.there;
+}
+
+pub loop-entry-smaller : goal.loop-entry-smaller
+loop-entry-smaller g c =
+    fewer_behind _ _ _ _ c.here.ensures.there (ap option_copied c.in-Some.is) c.in_ok-prev.ensures.down
+
+pub returns-clause-points : goal.returns-clause-points
+returns-clause-points g c =
+    none_left _ passed (λ xs. refl) _ _ _ (nowhere _ _ c.here.ensures.there (ap option_copied c.in_default.is)) c.loop-entry.invariant.reading

@@ -1,0 +1,31 @@
+use Rattle.std.proofs.Common.{◌∙◌, sym, ap, Some, refl}
+use Rattle.std.specs.Option.{option_copied}
+use Rattle.rk_model.specs.SourceLaws.{Same-trans}
+use Rattle.rk_model.specs.Sources.{points_below, point_ge, next_place}
+use Rattle.rk_model.proofs.Readings.{remaining, remaining-cut, steps_on, one_more, none_left, nothing_read, copied_here, nowhere, fewer_ahead}
+use Rattle.rk_model.proofs.both_ways.points_from.Goals as goal
+
+pub loop-entry-preserved : goal.loop-entry-preserved
+loop-entry-preserved g c =
+    let is = ap option_copied c.in-Some.is ∙ ap Some (sym c.in_ok-copy.ensures) in
+    let here = copied_here _ _ _ c.in_ok-copy.field-0 c.here.ensures.told is in
+    record {
+      same = Same-trans c.loop-entry.invariant.same c.in_ok-next.ensures.goes.same;
+      within = c.in_ok-next.ensures.goes.within;
+      reading = rw c.in_ok-push.ensures.items (one_more _ remaining next_place steps_on _ _ _ _ c.loop-entry.points.items c.in_ok-copy.field-0 c.loop-entry.invariant.same.held_is c.loop-entry.invariant.reading here c.in_ok-next.ensures.goes.there);
+    }
+
+pub loop-entry-init : goal.loop-entry-init
+loop-entry-init g c = record {
+  same = c.in_ok-seek_ge.ensures.goes.same;
+  within = c.in_ok-seek_ge.ensures.goes.within;
+  reading = nothing_read _ remaining (point_ge c.args.key.now) (λ es. remaining-cut (points_below c.args.key.now es) es) _ _ _ c.new-points.ensures.items c.in_ok-seek_ge.ensures.goes.there;
+}
+
+pub loop-entry-smaller : goal.loop-entry-smaller
+loop-entry-smaller g c =
+    fewer_ahead _ _ _ _ _ _ c.here.ensures.there (ap option_copied c.in-Some.is) c.in_ok-next.ensures.goes.same.count_is c.loop-entry.invariant.within c.in_ok-next.ensures.on c.in_ok-next.ensures.goes.within
+
+pub returns-clause-points : goal.returns-clause-points
+returns-clause-points g c =
+    none_left _ remaining (λ xs. refl) _ _ _ (nowhere _ _ c.here.ensures.there (ap option_copied c.in_default.is)) c.loop-entry.invariant.reading

@@ -1,0 +1,13 @@
+use Rattle.std.proofs.Common.{rules}
+use Rattle.std.specs.Ordering.{is_lt}
+use Rattle.std.proofs.lemmas.List.Sorted.{IsPartitionPoint-from_clause}
+use Rattle.rk_key.specs.Keys.{key_cmp}
+use Rattle.rk_model.specs.Sources.{op_key}
+use Rattle.rk_model.proofs.Searches.{points_partitioned, count_from_point}
+use Rattle.rk_model.proofs.places.points_below.Goals as goal
+
+pub returns-clause-sorted : goal.returns-clause-sorted
+returns-clause-sorted c = λ sorted.
+    let parted = points_partitioned c.args.key.now c.args.entries.now sorted in
+    let point = IsPartitionPoint-from_clause (λ e. is_lt (key_cmp (op_key e.op) c.args.key.now)) _ _ c.partition_point.ensures.partitioned parted (λ a r q k. search rules) in
+    count_from_point _ _ _ point c.partition_point.ensures.bound

@@ -1,0 +1,291 @@
+-- Sources that go on from the entry of one of them.
+use Rattle.std.proofs.Common.{◌≡◌, ℕ, zero, suc, ◌+◌, ◌<◌, ◌≤◌, length, get_or, set, All, Bool, true, false, not, List, [], ◌∷◌, Option, Some, None, is_some, IfSome, IsTrue, IsFalse, unwrap_or, slice_get, refl, ap, sym, subst, ◌∙◌, ◌⊎◌, inl, inr, arith, lt-ltb, add-one, get_or-set_same, get_or-set_other, length-set}
+use mathlib.Core.Bool.{beq}
+use Rattle.std.specs.Option.{option_map_or}
+use Rattle.std.proofs.lemmas.Bool.{cases_eq}
+use Rattle.rk_model.specs.Sources.{Seen, ascends, are_points, count_before, op_key, TurnsAreBounded, next_reads, prev_reads}
+use Rattle.rk_model.specs.declared.op.Entry.{Entry}
+use Rattle.rk_merge.specs.Unions.{Among}
+use Rattle.rk_merge.specs.Cuts.{place_near, cut_at, cut_past, step_place}
+use Rattle.rk_merge.proofs.Cuts.{near_is, near_rank, step_rank, rank_past, rank_item, cut_agree, before_suc}
+use Rattle.rk_merge.proofs.Unions.{union_from, union_apart}
+use Rattle.rk_pointmerge.specs.Merges.{united, told_items, comes_before, shown, rank, total, reach, come, merged, merged_place, merged_steps, merged_turn, place_of, next_reads_from, prev_reads_from, has_entry, step_most, turn_at_last}
+use Rattle.rk_pointmerge.specs.Moves.{MeetsKey, at_rest, all_rest, StandsNear, IsStraight, IsWithin, Stands, Left, Steps, Turned, go_reads}
+use Rattle.rk_pointmerge.proofs.Bests.{entry_total}
+use Rattle.rk_pointmerge.proofs.Unites.{IsUnited, united_is, source_ascends, shown_near}
+use Rattle.rk_pointmerge.proofs.Keys.{meets_key}
+use Rattle.rk_pointmerge.proofs.Turns.{straight, next_most, prev_most}
+use Rattle.rk_pointmerge.proofs.Alls.{rest_at, rest_length, any_default, pick}
+
+pub same_way : (a b : Bool) → beq a b ≡ true → a ≡ b
+same_way true true e = refl
+same_way true false e = cc
+same_way false true e = cc
+same_way false false e = refl
+
+pub other_way : (a b : Bool) → beq a b ≡ false → a ≡ not b
+other_way true true e = cc
+other_way true false e = refl
+other_way false true e = refl
+other_way false false e = cc
+
+-- sums over sources
+pub total_le : {S : Type 0} (f g : S → ℕ) (xs ys : List S) → length xs ≡ length ys → ((k : ℕ) (d : S) → k < length xs → f (get_or xs k d) ≤ g (get_or ys k d)) → total f xs ≤ total g ys
+total_le f g [] [] e h = omega arith
+total_le f g [] (y ∷ ys) e h = omega arith
+total_le f g (x ∷ xs) [] e h = absurd (omega arith)
+total_le f g (x ∷ xs) (y ∷ ys) e h =
+    let one = h 0 x (omega arith) in
+    let more = total_le f g xs ys (omega arith) (λ k d l. h (suc k) d (omega arith)) in
+    omega arith
+
+pub total_at : {S : Type 0} (f : S → ℕ) (ss : List S) (k : ℕ) (d : S) → k < length ss → f (get_or ss k d) ≤ total f ss
+total_at f [] k d h = absurd (omega arith)
+total_at f (s ∷ ss) zero d h = omega arith
+total_at f (s ∷ ss) (suc k) d h = let ih = total_at f ss k d (omega arith) in omega arith
+
+pub total_set : {S : Type 0} (f : S → ℕ) (ss : List S) (k : ℕ) (v d : S) → k < length ss → total f (set ss k v) + f (get_or ss k d) ≡ total f ss + f v
+total_set f [] k v d h = absurd (omega arith)
+total_set f (s ∷ ss) zero v d h = omega arith
+total_set f (s ∷ ss) (suc k) v d h = let ih = total_set f ss k v d (omega arith) in omega arith
+
+pub total_lt : {S : Type 0} (f g : S → ℕ) (ss : List S) (k : ℕ) (d : S) → k < length ss → f (get_or ss k d) < g (get_or ss k d) → ((j : ℕ) (c : S) → j < length ss → f (get_or ss j c) ≤ g (get_or ss j c)) → total f ss < total g ss
+total_lt f g [] k d h lt all = absurd (omega arith)
+total_lt f g (s ∷ ss) zero d h lt all =
+    let more = total_le f g ss ss refl (λ j c l. all (suc j) c (omega arith)) in
+    omega arith
+total_lt f g (s ∷ ss) (suc k) d h lt all =
+    let one = all 0 d (omega arith) in
+    let ih = total_lt f g ss k d (omega arith) lt (λ j c l. all (suc j) c (omega arith)) in
+    omega arith
+
+pub slice_at : {S : Type 0} (ss : List S) (k : ℕ) (d : S) → k < length ss → slice_get ss k ≡ Some (get_or ss k d)
+slice_at [] k d h = absurd (omega arith)
+slice_at (s ∷ ss) zero d h = refl
+slice_at (s ∷ ss) (suc k) d h = slice_at ss k d (omega arith)
+
+pub told_at : {A : Type 0} (h : Option A) (P : A → Type 0) (d : A) → is_some h ≡ true → IfSome h P → P (unwrap_or h d)
+told_at None P d some p = cc
+told_at (Some x) P d some p = p
+
+module _ {S : Type 0} (seen : S → Seen Entry) where
+  pub rest_items : (xs ys : List S) → all_rest seen xs ≡ all_rest seen ys → (k : ℕ) (d : S) → k < length xs → told_items (seen (get_or xs k d)) ≡ told_items (seen (get_or ys k d))
+  rest_items xs ys e k d h = ap told_items (rest_at seen xs ys e k d h)
+
+  pub placed_reach : (s : Seen Entry) → is_some s.place ≡ true → 1 ≤ reach false s
+  placed_reach s some = go s.place some
+    where
+      go : (p : Option ℕ) → is_some p ≡ true → 1 ≤ option_map_or (λ i. i + 1) p 0
+      go None e = cc
+      go (Some i) e = omega arith
+
+  -- what the sources stand next to, where the union is told
+  pub stands_told : (ss : List S) (at : ℕ) (was : Bool) → Stands seen ss at was → (es : List Entry) → united seen ss ≡ Some es → (d : S) (e : Entry) → shown (seen (get_or ss at d)) ≡ Some e
+      → All (λ s. StandsNear was (cut_at was comes_before e) (seen s) × IsStraight was (seen s)) ss
+  stands_told ss at was stands es u d e shows =
+      let P = λ (h : Option (List Entry)). IfSome h (λ es. (d : S) → IfSome (shown (seen (get_or ss at d))) (λ e. All (λ s. StandsNear was (cut_at was comes_before e) (seen s) × IsStraight was (seen s)) ss)) in
+      let Q = λ (h : Option Entry). IfSome h (λ e. All (λ s. StandsNear was (cut_at was comes_before e) (seen s) × IsStraight was (seen s)) ss) in
+      subst Q shows (subst P u stands.told d)
+
+  -- the clause of `Left` on content, from the same where the union is known
+  left_told : (olds news : List S) (at : ℕ) (ahead : Bool) → ((es : List Entry) → united seen olds ≡ Some es → (d : S) (e : Entry) → shown (seen (get_or olds at d)) ≡ Some e → All (λ s. StandsNear ahead (cut_past ahead comes_before e) (seen s) × IsStraight ahead (seen s)) news)
+      → IfSome (united seen olds) (λ es. (d : S) → IfSome (shown (seen (get_or olds at d))) (λ e. All (λ s. StandsNear ahead (cut_past ahead comes_before e) (seen s) × IsStraight ahead (seen s)) news))
+  left_told olds news at ahead h = go (united seen olds) refl
+    where
+      at_d : (es : List Entry) → united seen olds ≡ Some es → (d : S) (p : Option Entry) → shown (seen (get_or olds at d)) ≡ p → IfSome p (λ e. All (λ s. StandsNear ahead (cut_past ahead comes_before e) (seen s) × IsStraight ahead (seen s)) news)
+      at_d es u d None e = tt
+      at_d es u d (Some x) e = h es u d x e
+
+      go : (u : Option (List Entry)) → united seen olds ≡ u → IfSome u (λ es. (d : S) → IfSome (shown (seen (get_or olds at d))) (λ e. All (λ s. StandsNear ahead (cut_past ahead comes_before e) (seen s) × IsStraight ahead (seen s)) news))
+      go None u = tt
+      go (Some es) u = λ d. at_d es u d (shown (seen (get_or olds at d))) refl
+
+  -- all have turned
+  pub turned_left : (olds news : List S) (at : ℕ) (ahead : Bool) (key : List ℕ) → Stands seen olds at (not ahead) → all_rest seen news ≡ all_rest seen olds
+      → ((k : ℕ) (d : S) → k < length olds → Turned key ahead (seen (get_or olds k d)) (seen (get_or news k d))) → ((d : S) (e : Entry) → shown (seen (get_or olds at d)) ≡ Some e → key ≡ op_key e.op) → Left seen olds news at (not ahead) ahead
+  turned_left olds news at ahead key stands same turned keyed = record {
+    within = λ k d h. (turned k d (omega (arith, len))).within;
+    told = left_told olds news at ahead told;
+    further = λ a. further ahead a stands turned;
+    less = λ a. less ahead a stands turned;
+  }
+    where
+      len : length news ≡ length olds
+      len = rest_length seen news olds same
+
+      told : (es : List Entry) → united seen olds ≡ Some es → (d : S) (e : Entry) → shown (seen (get_or olds at d)) ≡ Some e → All (λ s. StandsNear ahead (cut_past ahead comes_before e) (seen s) × IsStraight ahead (seen s)) news
+      told es u d e shows k c h =
+          let short : k < length olds = omega (arith, len) in
+          let whole = united_is seen olds es u in
+          let old = seen (get_or olds k c) in
+          let was = stands_told olds at (not ahead) stands es u d e shows k c short in
+          let meets = subst (λ (x : List ℕ). MeetsKey x (count_before (cut_at (not ahead) comes_before e) (told_items old)) (told_items old)) (sym (keyed d e shows)) (meets_key (not ahead) e (told_items old)) in
+          let there = told_at old.held _ [] (whole.told k c short) (turned k c short).told (count_before (cut_at (not ahead) comes_before e) (told_items old)) meets was.0 in
+          let items = rest_items news olds same k c h in
+          (there.0 ∙ ap (λ xs. place_near ahead (count_before (cut_at (not ahead) comes_before e) xs) (length xs)) (sym items), there.1)
+
+      further : (a : Bool) → IsTrue a → Stands seen olds at (not a) → ((k : ℕ) (d : S) → k < length olds → Turned key a (seen (get_or olds k d)) (seen (get_or news k d))) → come seen olds (not a) < total (λ s. reach true (seen s)) news
+      further true t stands turned =
+          let d = pick olds at stands.among in
+          let le = total_le (λ s. reach false (seen s)) (λ s. reach true (seen s)) olds news (sym len) (λ k d l. (turned k d l).rises) in
+          let one = total_at (λ s. reach false (seen s)) olds at d stands.among in
+          let some = placed_reach (seen (get_or olds at d)) (stands.placed d) in
+          omega arith
+      further false t stands turned = cc
+
+      less : (a : Bool) → IsFalse a → Stands seen olds at (not a) → ((k : ℕ) (d : S) → k < length olds → Turned key a (seen (get_or olds k d)) (seen (get_or news k d))) → total (λ s. reach false (seen s)) news ≤ come seen olds (not a)
+      less true t stands turned = cc
+      less false t stands turned =
+          let le = total_le (λ s. reach false (seen s)) (λ s. reach true (seen s)) news olds len (λ k d l. (turned k d (omega (arith, len))).rises) in
+          omega arith
+
+  -- the one that shows the entry has gone on
+  pub stepped_left : ((s : S) → IfSome (seen s).held (λ xs. IsTrue (are_points xs))) → (olds : List S) (at : ℕ) (ahead : Bool) (v c : S) → Stands seen olds at ahead → at_rest (seen v) ≡ at_rest (seen (get_or olds at c))
+      → Steps ahead (seen (get_or olds at c)) (seen v) → Left seen olds (set olds at v) at ahead ahead
+  stepped_left sorted olds at ahead v c stands same steps = record {
+    within = λ k d h. within k d (omega (arith, length-set {A = S})) (cases_eq k at);
+    told = left_told olds (set olds at v) at ahead told;
+    further = λ a. further ahead a steps;
+    less = λ a. less ahead a steps;
+  }
+    where
+      within : (k : ℕ) (d : S) → k < length olds → (k ≡ at) ⊎ (k ≡ at → ⊥) → IsWithin (seen (get_or (set olds at v) k d))
+      within k d h (inl e) = let is : get_or (set olds at v) at d ≡ v = get_or-set_same olds at v d stands.among in rw (e, is) steps.within
+      within k d h (inr e) = let is : get_or (set olds at v) k d ≡ get_or olds k d = get_or-set_other olds at k v d e in rw is (stands.within k d h)
+
+      told : (es : List Entry) → united seen olds ≡ Some es → (d : S) (e : Entry) → shown (seen (get_or olds at d)) ≡ Some e → All (λ s. StandsNear ahead (cut_past ahead comes_before e) (seen s) × IsStraight ahead (seen s)) (set olds at v)
+      told es u d e shows k b h = go (omega (arith, length-set {A = S})) (cases_eq k at)
+        where
+          whole : IsUnited seen olds es
+          whole = united_is seen olds es u
+
+          was : All (λ s. StandsNear ahead (cut_at ahead comes_before e) (seen s) × IsStraight ahead (seen s)) olds
+          was = stands_told olds at ahead stands es u d e shows
+
+          among : Among e (told_items (seen (get_or olds at d)))
+          among = (near_is ahead (cut_at ahead comes_before e) (told_items (seen (get_or olds at d))) e (sym (shown_near ahead _ (seen (get_or olds at d)) (was at d stands.among).0) ∙ shows)).1
+
+          agree : (a : Bool) (y : Entry) → comes_before y e ≡ not (comes_before e y) → cut_at a comes_before e y ≡ cut_past a comes_before e y
+          agree true y p = p
+          agree false y p = sym p
+
+          go : k < length olds → (k ≡ at) ⊎ (k ≡ at → ⊥) → StandsNear ahead (cut_past ahead comes_before e) (seen (get_or (set olds at v) k b)) × IsStraight ahead (seen (get_or (set olds at v) k b))
+          go l (inl q) =
+              let is : get_or (set olds at v) at b ≡ v = get_or-set_same olds at v b stands.among in
+              let old = seen (get_or olds at c) in
+              let items : told_items (seen v) ≡ told_items old = ap told_items same in
+              let mine : Among e (told_items old) = subst (λ (s : S). Among e (told_items (seen s))) (any_default olds at d c stands.among) among in
+              let up = source_ascends old (sorted (get_or olds at c)) in
+              let here = (was at c stands.among).0 ∙ near_rank entry_total ahead (told_items old) up e mine in
+              let on = told_at old.held (λ es. (seen v).place ≡ step_place ahead es old.place) [] (whole.told at c stands.among) steps.told in
+              let there = on ∙ ap (step_place ahead (told_items old)) here ∙ step_rank entry_total ahead (told_items old) up e mine ∙ ap (λ xs. place_near ahead (count_before (cut_past ahead comes_before e) xs) (length xs)) (sym items) in
+              rw (q, is) (there, straight ahead (seen v) steps.straight)
+          go l (inr q) =
+              let is : get_or (set olds at v) k b ≡ get_or olds k b = get_or-set_other olds at k v b q in
+              let mine : Among e (told_items (seen (get_or olds at b))) = subst (λ (s : S). Among e (told_items (seen s))) (any_default olds at d b stands.among) among in
+              let up = ap (ascends comes_before) whole.is ∙ whole.ascending in
+              let apart : (y : Entry) → Among y (told_items (seen (get_or olds k b))) → comes_before y e ≡ not (comes_before e y) = λ y m. union_apart entry_total (λ s. told_items (seen s)) olds up at k b e y stands.among l (λ r. q (sym r)) mine m in
+              let mine-was = was k b l in
+              rw is (mine-was.0 ∙ ap (λ n. place_near ahead n (length (told_items (seen (get_or olds k b))))) (cut_agree (cut_at ahead comes_before e) (cut_past ahead comes_before e) (told_items (seen (get_or olds k b))) (λ y m. agree ahead y (apart y m))), mine-was.1)
+
+      further : (a : Bool) → IsTrue a → Steps a (seen (get_or olds at c)) (seen v) → come seen olds a < total (λ s. reach true (seen s)) (set olds at v)
+      further true t steps = let sum = total_set (λ s. reach true (seen s)) olds at v c stands.among in let up = steps.rises in omega arith
+      further false t steps = cc
+
+      less : (a : Bool) → IsFalse a → Steps a (seen (get_or olds at c)) (seen v) → total (λ s. reach false (seen s)) (set olds at v) ≤ come seen olds a
+      less true t steps = cc
+      less false t steps = let sum = total_set (λ s. reach false (seen s)) olds at v c stands.among in let up = steps.rises in omega arith
+
+  -- the entry of the source that has the merge's
+  pub stands_shows : (ss : List S) (at : ℕ) (was : Bool) → Stands seen ss at was → (es : List Entry) → united seen ss ≡ Some es → (d : S) → (e : Entry) × (shown (seen (get_or ss at d)) ≡ Some e)
+  stands_shows ss at was stands es u d = go (shown (seen (get_or ss at d))) refl (subst (λ (h : Option (List Entry)). IfSome h (λ es. (d : S) → is_some (shown (seen (get_or ss at d))) ≡ true)) u stands.shows d)
+    where
+      go : (p : Option Entry) → shown (seen (get_or ss at d)) ≡ p → is_some p ≡ true → (e : Entry) × (shown (seen (get_or ss at d)) ≡ Some e)
+      go None q some = cc
+      go (Some e) q some = (e, q)
+
+  pub merged_some : (ss : List S) (at : ℕ) (was : Bool) → Stands seen ss at was → (d : S) → is_some (merged_place seen ss (Some at) was) ≡ true
+  merged_some ss at was stands d = rw (slice_at ss at d stands.among) (go (united seen ss) refl)
+    where
+      go : (u : Option (List Entry)) → united seen ss ≡ u → is_some (place_of seen u ss was (get_or ss at d)) ≡ true
+      go None u = refl
+      go (Some es) u = let found = stands_shows ss at was stands es u d in rw found.1 refl
+
+  pub turn_reads_at : (ss : List S) (at : ℕ) (ahead : Bool) → Stands seen ss at (not ahead) → merged_turn seen ss ≤ go_reads ahead (merged seen ss (Some at) (not ahead))
+  turn_reads_at ss at ahead stands = go ahead stands
+    where
+      all : (p : Option ℕ) → is_some p ≡ true → merged_turn seen ss ≤ option_map_or (λ (i : ℕ). merged_turn seen ss) p 0
+      all None e = cc
+      all (Some i) e = omega arith
+
+      go : (a : Bool) → Stands seen ss at (not a) → merged_turn seen ss ≤ go_reads a (merged seen ss (Some at) (not a))
+      go true stands = let le = all (merged_place seen ss (Some at) false) (merged_some ss at false stands (pick ss at stands.among)) in omega arith
+      go false stands = let le = all (merged_place seen ss (Some at) true) (merged_some ss at true stands (pick ss at stands.among)) in omega arith
+
+  has : (e : Entry) (s : Seen Entry) → ascends comes_before (told_items s) ≡ true → Among e (told_items s) → has_entry e s ≡ true
+  has e s up m = let past = rank_past entry_total (told_items s) up e m in lt-ltb _ _ (omega arith)
+
+  next_from : (e : Entry) (s : Seen Entry) → ascends comes_before (told_items s) ≡ true → Among e (told_items s) → s.place ≡ Some (rank e (told_items s)) → s.turn_to_next ≡ 0 → next_reads s ≤ next_reads_from e s
+  next_from e s up m at straight = rw (has e s up m, at, straight) (omega arith)
+
+  prev_from : (e : Entry) (s : Seen Entry) → ascends comes_before (told_items s) ≡ true → Among e (told_items s) → s.place ≡ Some (rank e (told_items s)) → IsStraight false s → prev_reads s ≤ prev_reads_from e s
+  prev_from e s up m at straight =
+      let le : s.turn_to_prev ≤ turn_at_last s (rank e (told_items s)) = rw at at straight in
+      rw (has e s up m, at) (omega arith)
+
+  -- what a step of the source may read is what the merge's may
+  pub step_reads_at : ((s : S) → IfSome (seen s).held (λ xs. IsTrue (are_points xs))) → ((s : S) → TurnsAreBounded (seen s)) → (ss : List S) (at : ℕ) (ahead : Bool) (d : S) → Stands seen ss at ahead
+      → go_reads ahead (seen (get_or ss at d)) ≤ go_reads ahead (merged seen ss (Some at) ahead)
+  step_reads_at sorted turns ss at ahead d stands = go ahead stands
+    where
+      up : ascends comes_before (told_items (seen (get_or ss at d))) ≡ true
+      up = source_ascends (seen (get_or ss at d)) (sorted (get_or ss at d))
+
+      among : (a : Bool) (e : Entry) → StandsNear a (cut_at a comes_before e) (seen (get_or ss at d)) → shown (seen (get_or ss at d)) ≡ Some e → Among e (told_items (seen (get_or ss at d)))
+      among a e near shows = (near_is a (cut_at a comes_before e) (told_items (seen (get_or ss at d))) e (sym (shown_near a _ (seen (get_or ss at d)) near) ∙ shows)).1
+
+      all : (es : List Entry) → united seen ss ≡ Some es → at < length ss → (e : Entry) → Among e (told_items (seen (get_or ss at d))) → slice_get es (rank e es) ≡ Some e
+      all es u h e m =
+          let whole = united_is seen ss es u in
+          rank_item entry_total es whole.ascending e (subst (λ (xs : List Entry). Among e xs) whole.is (union_from comes_before (λ s. told_items (seen s)) ss at d e h m))
+
+      ahead_at : Stands seen ss at true → (u : Option (List Entry)) → united seen ss ≡ u → next_reads (seen (get_or ss at d)) ≤ option_map_or (λ i. merged_steps seen u ss (i + 1)) (place_of seen u ss true (get_or ss at d)) 0 + 0
+      ahead_at stands None u =
+          let one = next_most (seen (get_or ss at d)) (stands.within at d stands.among) (turns (get_or ss at d)) in
+          let most = total_at (λ s. step_most (seen s)) ss at d stands.among in
+          omega arith
+      ahead_at stands (Some es) u =
+          let found = stands_shows ss at true stands es u d in
+          let e = found.0 in
+          let near = stands_told ss at true stands es u d e found.1 at d stands.among in
+          let m = among true e near.0 found.1 in
+          let place = near.0 ∙ near_rank entry_total true (told_items (seen (get_or ss at d))) up e m in
+          let one = next_from e (seen (get_or ss at d)) up m place near.1 in
+          let most = total_at (λ s. next_reads_from e (seen s)) ss at d stands.among in
+          rw (found.1, add-one, before_suc (rank e es), all es u stands.among e m) (omega arith)
+
+      back_at : Stands seen ss at false → (u : Option (List Entry)) → united seen ss ≡ u → prev_reads (seen (get_or ss at d)) ≤ option_map_or (λ i. merged_steps seen u ss i) (place_of seen u ss false (get_or ss at d)) 0 + 0
+      back_at stands None u =
+          let one = prev_most (seen (get_or ss at d)) (stands.within at d stands.among) (turns (get_or ss at d)) in
+          let most = total_at (λ s. step_most (seen s)) ss at d stands.among in
+          omega arith
+      back_at stands (Some es) u =
+          let found = stands_shows ss at false stands es u d in
+          let e = found.0 in
+          let near = stands_told ss at false stands es u d e found.1 at d stands.among in
+          let m = among false e near.0 found.1 in
+          let place = near.0 ∙ near_rank entry_total false (told_items (seen (get_or ss at d))) up e m in
+          let one = prev_from e (seen (get_or ss at d)) up m place near.1 in
+          let most = total_at (λ s. prev_reads_from e (seen s)) ss at d stands.among in
+          rw (found.1, all es u stands.among e m) (omega arith)
+
+      go : (a : Bool) → Stands seen ss at a → go_reads a (seen (get_or ss at d)) ≤ go_reads a (merged seen ss (Some at) a)
+      go true stands = rw (slice_at ss at d stands.among) (ahead_at stands (united seen ss) refl)
+      go false stands = rw (slice_at ss at d stands.among) (back_at stands (united seen ss) refl)
+
+  -- the entry of the source is one of the union
+  pub among_united : ((s : S) → IfSome (seen s).held (λ xs. IsTrue (are_points xs))) → (ss : List S) (at : ℕ) (was : Bool) → Stands seen ss at was → (es : List Entry) → united seen ss ≡ Some es → (d : S) (e : Entry) → shown (seen (get_or ss at d)) ≡ Some e → Among e es
+  among_united sorted ss at was stands es u d e shows =
+      let near = (stands_told ss at was stands es u d e shows at d stands.among).0 in
+      let m = (near_is was (cut_at was comes_before e) (told_items (seen (get_or ss at d))) e (sym (shown_near was _ (seen (get_or ss at d)) near) ∙ shows)).1 in
+      subst (λ (xs : List Entry). Among e xs) (united_is seen ss es u).is (union_from comes_before (λ s. told_items (seen s)) ss at d e stands.among m)

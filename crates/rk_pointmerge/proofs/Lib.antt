@@ -1,0 +1,11 @@
+pub mod Runs
+pub mod Sums
+pub mod Walks
+pub mod Turns
+pub mod Alls
+pub mod Bests
+pub mod Keys
+pub mod Unites
+pub mod Settles
+pub mod Leaves
+pub mod Arrivals

@@ -1,0 +1,82 @@
+-- What the acceptance of a line says of the session that does it.
+use Rattle.std.proofs.Common.{◌≡◌, ℕ, Bool, true, false, List, [], ◌∷◌, map, Option, Some, None, ap, sym, ◌∙◌, refl, subst}
+use Rattle.std.specs.Option.{option_map}
+use Rattle.std.specs.Prelude.{IsTrue, IsSome, IfSome, not, ◌&&◌}
+use Rattle.rk_model.specs.Named.{named}
+use Rattle.rk_script.specs.Naming.{is_called}
+use Rattle.rk_script.specs.Script.{Names, is_accepted}
+use Rattle.rk_script.specs.declared.line.Event.{Event}
+use Rattle.rk_script.specs.declared.line.Event.TheVariants.{Release, Iter, First, Last, Next, Prev, SeekGe, SeekLt, Close}
+use Rattle.rk_program.specs.Standing.{StandsFor, IsFree, IsLive, numbers, opens, names_in}
+use Rattle.rk_program.specs.Transcript.{SessionState, move_of, names_of}
+use Rattle.rk_program.specs.declared.session.Session.{Session}
+use Rattle.rk_program.proofs.LineLemmas.{snapshot_name, snapshot_number, iterator_name, iterator_open}
+use Rattle.rk_program.proofs.NameLemmas.{same_names}
+use Rattle.rk_program.proofs.Naming.{named-there, named-absent, named_values}
+
+all_three : (a b c : Bool) → (a && b && c) ≡ true → (a ≡ true) × (b ≡ true) × (c ≡ true)
+all_three true true true h = (refl, refl, refl)
+all_three true true false h = cc
+all_three true false c h = cc
+all_three false b c h = cc
+
+not_called : (a : Bool) → not a ≡ true → a ≡ false
+not_called true h = cc
+not_called false h = refl
+
+first_names : {T A : Type 0} (called : T → List ℕ) (value : T → A) (xs : List T) → map called xs ≡ map (λ x. x.0) (named_values called value xs)
+first_names called value [] = refl
+first_names called value (x ∷ xs) = ap (λ ns. called x ∷ ns) (first_names called value xs)
+
+-- the names that a session has in use are those of the state that it stands for
+pub accepted_in : (session : Session) (s : SessionState) (event : Event) → StandsFor session s
+    → IsTrue (is_accepted (names_of s) event) → IsTrue (is_accepted (names_in session) event)
+accepted_in session s event stands accepted =
+    let same : names_of s ≡ names_in session = sym (same_names _ _ _ _ _ _
+    (first_names (λ w. w.name) (λ w. w.batch) session.writers.items ∙ ap (map (λ b. b.0)) stands.batches_are)
+    (first_names iterator_name iterator_open session.iterators.items ∙ ap (map (λ i. i.0)) stands.iterators_are)
+    (first_names snapshot_name snapshot_number session.snapshots.items ∙ ap (map (λ x. x.0)) stands.snapshots_are)) in
+    let P : Names → Type 0 = λ names. IsTrue (is_accepted names event) in
+    subst P same accepted
+
+pub live_snapshot : (session : Session) (name : List ℕ) → is_called name (names_in session).snapshots ≡ true → IsLive name (numbers session.snapshots.items)
+live_snapshot session name there = named-there snapshot_name snapshot_number name session.snapshots.items there
+
+pub live_iterator : (session : Session) (name : List ℕ) → is_called name (names_in session).iterators ≡ true → IsLive name (opens session.iterators.items)
+live_iterator session name there = named-there iterator_name iterator_open name session.iterators.items there
+
+pub release_live : (session : Session) (name : List ℕ) → IsTrue (is_accepted (names_in session) (Release name)) → IsLive name (numbers session.snapshots.items)
+release_live session name accepted = live_snapshot session name (all_three _ _ _ accepted).0
+
+pub close_live : (session : Session) (name : List ℕ) → IsTrue (is_accepted (names_in session) (Close name)) → IsLive name (opens session.iterators.items)
+close_live session name accepted = live_iterator session name (all_three _ _ _ accepted).0
+
+pub iter_free : (session : Session) (name : List ℕ) (at : Option (List ℕ)) (lower upper mask : Option (List ℕ))
+    → IsTrue (is_accepted (names_in session) (Iter name at lower upper mask)) → IsFree name (opens session.iterators.items)
+iter_free session name at lower upper mask accepted =
+    named-absent iterator_name iterator_open name session.iterators.items (not_called _ (all_three _ _ _ accepted).1)
+
+pub iter_live : (session : Session) (name : List ℕ) (at : Option (List ℕ)) (lower upper mask : Option (List ℕ))
+    → IsTrue (is_accepted (names_in session) (Iter name at lower upper mask)) → IfSome at (λ snapshot. IsLive snapshot (numbers session.snapshots.items))
+iter_live session name None lower upper mask accepted = tt
+iter_live session name (Some at) lower upper mask accepted = live_snapshot session at (all_three _ _ _ accepted).0
+
+pub move_live : (session : Session) (event : Event) (iter : List ℕ) → option_map (λ m. m.0) (move_of event) ≡ Some iter
+    → IsTrue (is_accepted (names_in session) event) → IsLive iter (opens session.iterators.items)
+move_live session (First i) iter is accepted = let same : i ≡ iter = cc in rw (← same) (live_iterator session i (all_three _ _ _ accepted).0)
+move_live session (Last i) iter is accepted = let same : i ≡ iter = cc in rw (← same) (live_iterator session i (all_three _ _ _ accepted).0)
+move_live session (Next i) iter is accepted = let same : i ≡ iter = cc in rw (← same) (live_iterator session i (all_three _ _ _ accepted).0)
+move_live session (Prev i) iter is accepted = let same : i ≡ iter = cc in rw (← same) (live_iterator session i (all_three _ _ _ accepted).0)
+move_live session (SeekGe i key) iter is accepted = let same : i ≡ iter = cc in rw (← same) (live_iterator session i (all_three _ _ _ accepted).0)
+move_live session (SeekLt i key) iter is accepted = let same : i ≡ iter = cc in rw (← same) (live_iterator session i (all_three _ _ _ accepted).0)
+move_live session other iter is accepted = cc
+
+not_there : {A : Type 0} (found : Option A) → IsSome found → found ≡ None → ⊥
+not_there None live is = cc
+not_there (Some a) live is = cc
+
+-- a thing that is live is found
+pub is_found : {T A : Type 0} (called : T → List ℕ) (value : T → A) (xs : List T) (name : List ℕ) → IsLive name (named_values called value xs)
+    → is_called name (map called xs) ≡ false → ⊥
+is_found called value xs name live absent =
+    not_there (named name (named_values called value xs)) live (named-absent called value name xs absent)
