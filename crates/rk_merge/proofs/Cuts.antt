@@ -215,3 +215,69 @@ cross {A} false n xs i e = go (lt_or_le n (length xs))
     go : (n < length xs) ⊎ (length xs ≤ n) → before_cut i ≡ before_cut n
     go (inl h) = let f : i ≡ n = cc (behind_some n (length xs) h) in ap before_cut f
     go (inr h) = cc (behind_none n (length xs) h)
+
+module _ {A : Type 0} {cmp : A → A → Ordering} (o : IsTotalOrder cmp) where
+  -- items of a list that ascends, of which neither stands before the other, are one
+  pub tied_same : (xs : List A) → ascends (λ a b. is_lt (cmp a b)) xs ≡ true → (x y : A) → Among x xs → Among y xs → is_lt (cmp x y) ≡ false → is_lt (cmp y x) ≡ false → x ≡ y
+  tied_same [] up x y m n p q = absurd m
+  tied_same (z ∷ zs) up x y (inl e) (inl f) p q = e ∙ sym f
+  tied_same (z ∷ zs) up x y (inl e) (inr n) p q = let w : is_lt (cmp x y) ≡ true = rw e (ascends_first o z zs up y n) in cc
+  tied_same (z ∷ zs) up x y (inr m) (inl f) p q = let w : is_lt (cmp y x) ≡ true = rw f (ascends_first o z zs up x m) in cc
+  tied_same (z ∷ zs) up x y (inr m) (inr n) p q = tied_same zs (ascends_tail (λ a b. is_lt (cmp a b)) z zs up) x y m n p q
+
+  -- what is seen from a cut, as the item from whose own cut it is seen
+  module _ (ahead : Bool) (t : A → Bool) (falls : Falls o t) (xs : List A) (up : ascends (λ a b. is_lt (cmp a b)) xs ≡ true) (e : A) (near : near_cut ahead t xs ≡ Some e) where
+    pub seen_cut : (y : A) → Among y xs → t y ≡ cut_at ahead (λ a b. is_lt (cmp a b)) e y
+    seen_cut y m = nearest_cut o ahead t falls e (near_is ahead t xs e near).0 y (λ out.
+        let best = near_best o ahead t falls xs up y m out in
+        let same : best.0 ≡ e = cc (best.1) in
+        ap (λ z. is_nearer ahead (λ a b. is_lt (cmp a b)) y z) (sym same) ∙ best.2)
+
+    -- a step goes to what is seen past it
+    pub seen_step : step_place ahead xs (place_near ahead (count_before t xs) (length xs)) ≡ place_near ahead (count_before (cut_past ahead (λ a b. is_lt (cmp a b)) e) xs) (length xs)
+    seen_step =
+        let m = (near_is ahead t xs e near).1 in
+        let cut = cut_agree t (cut_at ahead (λ a b. is_lt (cmp a b)) e) xs seen_cut in
+        ap (λ n. step_place ahead xs (place_near ahead n (length xs))) cut ∙ ap (step_place ahead xs) (near_rank o ahead xs up e m) ∙ step_rank o ahead xs up e m
+
+    -- past it is all else that was beyond
+    pub seen_past : (y : A) → Among y xs → is_beyond ahead t y ≡ true → is_beyond ahead (cut_past ahead (λ a b. is_lt (cmp a b)) e) y ≡ false → y ≡ e
+    seen_past y m out past = go ahead (seen_cut y m) out past
+      where
+        go : (a : Bool) → t y ≡ cut_at a (λ a b. is_lt (cmp a b)) e y → is_beyond a t y ≡ true → is_beyond a (cut_past a (λ a b. is_lt (cmp a b)) e) y ≡ false → y ≡ e
+        go true c out past =
+            let back : is_lt (cmp y e) ≡ false = sym c ∙ not_true (t y) out in
+            let on : is_lt (cmp e y) ≡ false = twice (is_lt (cmp e y)) past in
+            tied_same xs up y e m (near_is ahead t xs e near).1 back on
+          where
+            twice : (b : Bool) → not (not b) ≡ false → b ≡ false
+            twice true w = cc
+            twice false w = refl
+        go false c out past =
+            let on : is_lt (cmp e y) ≡ false = not_true (is_lt (cmp e y)) (sym c ∙ out) in
+            tied_same xs up y e m (near_is ahead t xs e near).1 past on
+
+    pub seen_still : (y : A) → Among y xs → is_beyond ahead (cut_past ahead (λ a b. is_lt (cmp a b)) e) y ≡ true → is_beyond ahead t y ≡ true
+    seen_still y m past = go ahead (seen_cut y m) past
+      where
+        go : (a : Bool) → t y ≡ cut_at a (λ a b. is_lt (cmp a b)) e y → is_beyond a (cut_past a (λ a b. is_lt (cmp a b)) e) y ≡ true → is_beyond a t y ≡ true
+        go true c past = ap not (c ∙ lt_back o e y (not_true' (is_lt (cmp e y)) past))
+          where
+            not_true' : (b : Bool) → not (not b) ≡ true → b ≡ true
+            not_true' true w = refl
+            not_true' false w = cc
+        go false c past = c ∙ ap not (lt_back o y e past)
+
+  -- an item is seen from its own cut
+  pub own_near : (ahead : Bool) (xs : List A) → ascends (λ a b. is_lt (cmp a b)) xs ≡ true → (e : A) → Among e xs → near_cut ahead (cut_at ahead (λ a b. is_lt (cmp a b)) e) xs ≡ Some e
+  own_near ahead xs up e m = sym (near_item ahead (cut_at ahead (λ a b. is_lt (cmp a b)) e) xs) ∙ ap (item_at xs) (near_rank o ahead xs up e m) ∙ rank_item o xs up e m
+
+  -- the place of an item is how many stand before it
+  pub slice_rank : (xs : List A) → ascends (λ a b. is_lt (cmp a b)) xs ≡ true → (i : ℕ) (c : A) → slice_get xs i ≡ Some c → Among c xs × (count_before (λ y. is_lt (cmp y c)) xs ≡ i)
+  slice_rank [] up i c e = cc
+  slice_rank (x ∷ xs) up zero c e = let one : c ≡ x = cc in (inl one, rw (one, lt_itself o x) refl)
+  slice_rank (x ∷ xs) up (suc i) c e =
+      let ih = slice_rank xs (ascends_tail (λ a b. is_lt (cmp a b)) x xs up) i c e in
+      let first = ascends_first o x xs up c ih.0 in
+      let rest = ih.1 in
+      (inr ih.0, rw first (omega arith))

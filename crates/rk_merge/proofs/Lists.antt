@@ -1,5 +1,6 @@
 -- Items of lists, and lists that ascend.
-use Rattle.std.proofs.Common.{◌≡◌, ℕ, zero, suc, ◌<◌, length, get_or, Bool, true, false, ◌&&◌, List, [], ◌∷◌, refl, ap, ◌∙◌, inl, inr, arith, Ordering}
+use Rattle.std.proofs.Common.{◌≡◌, ℕ, zero, suc, ◌<◌, length, get_or, Bool, true, false, ◌&&◌, List, [], ◌∷◌, refl, ap, ◌∙◌, inl, inr, arith, Ordering, filter, cond, sym}
+use Rattle.std.specs.List.{list_all}
 use Rattle.std.specs.Ordering.{is_lt}
 use Rattle.std.specs.Cmp.{IsTotalOrder}
 use Rattle.rk_key.proofs.TotalOrders.{lt_trans}
@@ -36,3 +37,39 @@ module _ {A : Type 0} {cmp : A → A → Ordering} (o : IsTotalOrder cmp) where
   pub ascends_cons : (x : A) (ys : List A) → ascends (λ a b. is_lt (cmp a b)) ys ≡ true → ((z : A) → Among z ys → is_lt (cmp x z) ≡ true) → ascends (λ a b. is_lt (cmp a b)) (x ∷ ys) ≡ true
   ascends_cons x [] up first = refl
   ascends_cons x (y ∷ ys) up first = and_true (is_lt (cmp x y)) _ (first y (inl refl)) up
+
+-- the items that a test takes
+pub among_filter : {A : Type 0} (t : A → Bool) (xs : List A) (z : A) → Among z xs → t z ≡ true → Among z (filter t xs)
+among_filter t [] z m h = m
+among_filter {A} t (x ∷ xs) z m h = go (t x) refl m (λ n. among_filter t xs z n h)
+  where
+    go : (b : Bool) → t x ≡ b → Among z (x ∷ xs) → (Among z xs → Among z (filter t xs)) → Among z (cond b (x ∷ filter t xs) (filter t xs))
+    go true q (inl e) ih = inl e
+    go true q (inr n) ih = inr (ih n)
+    go false q (inl e) ih = let w : true ≡ false = sym h ∙ ap t e ∙ q in cc
+    go false q (inr n) ih = ih n
+
+pub filter_among : {A : Type 0} (t : A → Bool) (xs : List A) (z : A) → Among z (filter t xs) → Among z xs × (t z ≡ true)
+filter_among t [] z m = absurd m
+filter_among {A} t (x ∷ xs) z m = go (t x) refl m (filter_among t xs z)
+  where
+    go : (b : Bool) → t x ≡ b → Among z (cond b (x ∷ filter t xs) (filter t xs)) → (Among z (filter t xs) → Among z xs × (t z ≡ true)) → Among z (x ∷ xs) × (t z ≡ true)
+    go true q (inl e) ih = (inl e, ap t e ∙ q)
+    go true q (inr n) ih = (inr (ih n).0, (ih n).1)
+    go false q n ih = (inr (ih n).0, (ih n).1)
+
+pub all_filter : {A : Type 0} (p t : A → Bool) (xs : List A) → list_all p xs ≡ true → list_all p (filter t xs) ≡ true
+all_filter p t [] all = refl
+all_filter {A} p t (x ∷ xs) all = go (t x) (all_filter p t xs (and_parts (p x) _ all).1)
+  where
+    go : (b : Bool) → list_all p (filter t xs) ≡ true → list_all p (cond b (x ∷ filter t xs) (filter t xs)) ≡ true
+    go true ih = and_true (p x) _ (and_parts (p x) _ all).0 ih
+    go false ih = ih
+
+pub filter_ascends : {A : Type 0} {cmp : A → A → Ordering} (o : IsTotalOrder cmp) (t : A → Bool) (xs : List A) → ascends (λ a b. is_lt (cmp a b)) xs ≡ true → ascends (λ a b. is_lt (cmp a b)) (filter t xs) ≡ true
+filter_ascends o t [] up = refl
+filter_ascends {A} {cmp} o t (x ∷ xs) up = go (t x) (filter_ascends o t xs (ascends_tail (λ a b. is_lt (cmp a b)) x xs up))
+  where
+    go : (b : Bool) → ascends (λ a b. is_lt (cmp a b)) (filter t xs) ≡ true → ascends (λ a b. is_lt (cmp a b)) (cond b (x ∷ filter t xs) (filter t xs)) ≡ true
+    go true ih = ascends_cons o x (filter t xs) ih (λ z m. ascends_first o x xs up z (filter_among t xs z m).0)
+    go false ih = ih

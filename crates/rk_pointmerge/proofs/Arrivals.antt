@@ -170,7 +170,7 @@ module _ {S : Type 0} (seen : S → Seen Entry) where
   merged_untold : (ss : List S) (at : ℕ) (was : Bool) → united seen ss ≡ None → (d : S) → at < length ss → merged_place seen ss (Some at) was ≡ Some (come seen ss was)
   merged_untold ss at was u d h = ap (λ o. option_and_then (place_of seen (united seen ss) ss was) o) (slice_at ss at d h) ∙ ap (λ v. place_of seen v ss was (get_or ss at d)) u
 
-  moves_told : (ahead : Bool) (es : List Entry) (r : ℕ) → MovesOn ahead (Some r) (step_place ahead es (Some r))
+  pub moves_told : (ahead : Bool) (es : List Entry) (r : ℕ) → MovesOn ahead (Some r) (step_place ahead es (Some r))
   moves_told true es r = go (lt_or_le (r + 1) (length es))
     where
       go : (r + 1 < length es) ⊎ (length es ≤ r + 1) → Rises (Some r) (behind_cut (r + 1) (length es))

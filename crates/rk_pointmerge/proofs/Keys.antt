@@ -17,7 +17,7 @@ key_before : (x y : Entry) → is_lt (key_cmp (op_key x.op) (op_key y.op)) ≡ t
 key_before x y h = rw (less_is key_cmp-total (op_key x.op) (op_key y.op) h) refl
 
 -- below the key of an entry is what comes before it
-not_below : (x y : Entry) → comes_before x y ≡ false → is_lt (key_cmp (op_key x.op) (op_key y.op)) ≡ false
+pub not_below : (x y : Entry) → comes_before x y ≡ false → is_lt (key_cmp (op_key x.op) (op_key y.op)) ≡ false
 not_below x y h = go (is_lt (key_cmp (op_key x.op) (op_key y.op))) refl
   where
     go : (b : Bool) → is_lt (key_cmp (op_key x.op) (op_key y.op)) ≡ b → b ≡ false
@@ -40,7 +40,7 @@ left_not_below false e y h = not_below y e (lt_back entry_total e y (not_false (
     not_false true e = refl
     not_false false e = cc
 
-full_all : {A : Type 0} (t : A → Bool) (xs : List A) → count_before t xs ≡ length xs → (x : A) → Among x xs → t x ≡ true
+pub full_all : {A : Type 0} (t : A → Bool) (xs : List A) → count_before t xs ≡ length xs → (x : A) → Among x xs → t x ≡ true
 full_all t [] e x m = absurd m
 full_all {A} t (y ∷ ys) e x m = go (t y) refl e m (cut_within t ys) (full_all t ys)
   where

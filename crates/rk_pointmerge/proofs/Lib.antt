@@ -9,3 +9,7 @@ pub mod Unites
 pub mod Settles
 pub mod Leaves
 pub mod Arrivals
+pub mod Sights
+pub mod AheadWalks
+pub mod BackWalks
+pub mod ViewPlaces

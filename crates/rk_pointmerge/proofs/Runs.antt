@@ -92,3 +92,10 @@ source_runs s t f f' r r' m k result le same cause reads =
     let a = reads.later in
     let b = reads.bound in
     record { same = rest_same s t same; cause = cause; reads = record { later = a; bound = omega arith } }
+
+-- want of memory that is handed on
+pub ran_refusal : {X A U : Type 0} (x y : X) (h : Option A) (f f' r r' m k : ℕ) (e : SourceError) (given : Result U SourceError) → m ≤ k → Ran x y f f' r r' m → e ≡ Memory → IsErrAnd given (λ d. d ≡ e) → Runs x y h f f' r r' k given
+ran_refusal {X} {A} {U} x y h f f' r r' m k e given le ran is q =
+    let found = err_from_is_err_and given q in
+    let all : Runs {T = U} x y h f f' r r' k (Err Memory) = ran_memory x y h f f' r r' m k le ran in
+    rw (found.1, found.2, is) all

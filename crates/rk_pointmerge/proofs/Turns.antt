@@ -51,14 +51,14 @@ pub step_below_turn : (ahead : Bool) (s : Seen Entry) → IsWithin s → TurnsAr
 step_below_turn true s within turns = let le = next_most s within turns in omega arith
 step_below_turn false s within turns = let le = prev_most s within turns in omega arith
 
-none_behind : (n len : ℕ) → is_some (behind_cut n len) ≡ false → len ≤ n
+pub none_behind : (n len : ℕ) → is_some (behind_cut n len) ≡ false → len ≤ n
 none_behind n len none = go (lt_or_le n len)
   where
     go : (n < len) ⊎ (len ≤ n) → len ≤ n
     go (inl h) = let e = ap is_some (behind_some n len h) in cc
     go (inr h) = h
 
-some_behind : (n len : ℕ) → is_some (behind_cut n len) ≡ true → n < len
+pub some_behind : (n len : ℕ) → is_some (behind_cut n len) ≡ true → n < len
 some_behind n len some = go (lt_or_le n len)
   where
     go : (n < len) ⊎ (len ≤ n) → n < len

@@ -1,3 +1,5 @@
 pub mod Merges
 pub mod Moves
 pub mod MergeLaws
+pub mod Views
+pub mod ViewLaws

@@ -1,17 +1,30 @@
-//! The points of several sources as one source.
+//! The points of several sources as one source, and what is seen of them at a number.
 //!
 //! It stands on the sources of `rk_model` and on the law of merging lists of `rk_merge`. [`PointMerge`] is a
 //! source over sources, proved by their contract alone: its list is their union, by key and the newest first
-//! within one key, told where each of them is told and no two entries over one key have one number. It goes
-//! both ways, turns anywhere, and elsewhere it is safe, returns, and hands refusals on with their causes.
+//! within one key, told where each of them is told and no two entries over one key have one number.
+//! [`Visible`] shows of each key the newest entry that is numbered at most `n`, where that is a set. Both go
+//! both ways and turn anywhere. Where they aren't told, they are safe, return, and hand refusals on with their
+//! causes.
 #![tactic(auto)]
 
+mod ahead;
 mod all;
+mod back;
+mod kept;
+mod laws;
+mod look;
 mod merge;
 mod nearest;
 mod one;
+mod visible;
 
+pub use laws::{
+    a_sorted_list_is_told_by_its_entries, the_order_of_the_lists_does_not_matter,
+    the_union_has_exactly_their_entries, the_union_of_sorted_lists_is_sorted,
+};
 pub use merge::PointMerge;
+pub use visible::Visible;
 
 #[cfg(test)]
 mod tests;

@@ -46,7 +46,7 @@ pub(crate) fn step_one<R: Counting, S: PointSource<R>>(
     }
 }
 
-fn seek_one<R: Counting, S: PointSource<R>>(
+pub(crate) fn seek_one<R: Counting, S: PointSource<R>>(
     source: &mut S,
     reader: &mut R,
     key: &UserKey,

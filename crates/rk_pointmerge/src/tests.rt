@@ -1,4 +1,4 @@
-use crate::PointMerge;
+use crate::{PointMerge, Visible};
 use rk_key::read_key;
 use rk_model::{Entry, ListPoints, Op, PointSource};
 use rk_outside::{Bytes, NoReads};
@@ -102,6 +102,64 @@ fn a_turn_goes_to_the_neighbour(rt: HostRuntime) -> Result<(), Fail> {
     assert_eq!(rt;
         numbers.as_slice(),
         [5, 2, 1, 2, 5, 2, 1, 3, 4, 3].as_slice()
+    );
+    Ok(())
+}
+
+/// What is seen at a number of `a` set at 1 and deleted at 2, of `b` set at 3, and of `c` set at 1.
+fn visible(alloc: Global, n: u64) -> Result<Visible<ListPoints>, Fail> {
+    let mut sources = Vec::new(alloc);
+    for entries in [
+        [put(alloc, b"a", 1)?, put(alloc, b"c", 1)?],
+        [del(alloc, b"a", 2)?, put(alloc, b"b", 3)?],
+    ] {
+        sources.push(list(alloc, entries)?)?;
+    }
+    sources.push(ListPoints::new(Vec::new(alloc)))?;
+    Ok(Visible::new(alloc, PointMerge::new(alloc, sources)?, n)?)
+}
+
+/// The first byte of the key here, and 0 where there is none.
+fn shown(visible: &Visible<ListPoints>) -> u8 {
+    match <Visible<ListPoints> as PointSource<NoReads>>::here(visible) {
+        Some(entry) => entry.op.key().bytes().first().copied().unwrap_or(0),
+        None => 0,
+    }
+}
+
+/// What is shown from the first key on, one step further, and before `c`.
+fn looks(alloc: Global, n: u64) -> Result<[u8; 3], Fail> {
+    let mut visible = visible(alloc, n)?;
+    visible.seek_ge(&mut NoReads, &read_key(alloc, b"a")?)?;
+    let first = shown(&visible);
+    if <Visible<ListPoints> as PointSource<NoReads>>::here(&visible).is_some() {
+        visible.next(&mut NoReads)?;
+    }
+    let second = shown(&visible);
+    visible.seek_lt(&mut NoReads, &read_key(alloc, b"c")?)?;
+    Ok([first, second, shown(&visible)])
+}
+
+#[test]
+fn a_deleted_key_is_not_seen(rt: HostRuntime) -> Result<(), Fail> {
+    assert_eq!(rt; looks(rt.alloc(), 2)?.as_slice(), [b'c', 0, 0].as_slice());
+    Ok(())
+}
+
+#[test]
+fn a_key_is_seen_before_its_delete(rt: HostRuntime) -> Result<(), Fail> {
+    assert_eq!(rt;
+        looks(rt.alloc(), 1)?.as_slice(),
+        [b'a', b'c', b'a'].as_slice()
+    );
+    Ok(())
+}
+
+#[test]
+fn a_newer_key_is_seen_at_its_number(rt: HostRuntime) -> Result<(), Fail> {
+    assert_eq!(rt;
+        looks(rt.alloc(), 3)?.as_slice(),
+        [b'b', b'c', b'b'].as_slice()
     );
     Ok(())
 }

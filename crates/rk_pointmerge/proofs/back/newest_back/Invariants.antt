@@ -1,0 +1,21 @@
+use Rattle.std.proofs.Common.{◌≡◌, ◌+◌, ◌<◌, ◌≤◌, IsSome, false}
+use Rattle.rk_pointmerge.specs.Merges.{reach}
+use Rattle.rk_pointmerge.specs.Moves.{at_rest, IsWithin}
+use Rattle.rk_pointmerge.specs.Views.{gaps_left}
+use Rattle.rk_pointmerge.proofs.Runs.{Ran}
+use Rattle.rk_pointmerge.proofs.BackWalks.{ToldBack}
+use Rattle.rk_pointmerge.proofs.back.newest_back.Given as goal
+
+abbrev pub invariant-loop-entry : goal.invariant-loop-entry
+invariant-loop-entry g l = record {
+  straight : (g.P.PointList.seen l.points).turn_to_prev ≡ 0;
+  within : IsWithin (g.P.PointList.seen l.points);
+  lower : reach false (g.P.PointList.seen l.points) < reach false (g.P.PointList.seen l.fn.points);
+  kept : IsSome l.key;
+  told : ToldBack (g.P.PointList.seen l.fn.points) (g.P.PointList.seen l.points) l.n l.key l.found;
+  spent : g.R.Counting.read_count l.reader + gaps_left (g.P.PointList.seen l.points) ≤ g.R.Counting.read_count l.fn.reader + gaps_left (g.P.PointList.seen l.fn.points);
+  ran : Ran (at_rest (g.P.PointList.seen l.fn.points)) (at_rest (g.P.PointList.seen l.points)) (g.R.Counting.fault_count l.fn.reader) (g.R.Counting.fault_count l.reader) (g.R.Counting.read_count l.fn.reader) (g.R.Counting.read_count l.reader) (gaps_left (g.P.PointList.seen l.fn.points));
+}
+
+abbrev pub decreases-loop-entry : goal.decreases-loop-entry
+decreases-loop-entry g l = reach false (g.P.PointList.seen l.points)

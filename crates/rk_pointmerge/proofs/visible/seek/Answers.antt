@@ -1,0 +1,33 @@
+use Rattle.std.proofs.Common.{◌^◌, ◌<◌, length, None, Ok, Err, ℕ, List, Option, subst, ap, lit<}
+use Rattle.std.proofs.lemmas.Result.{err_from_is_err_and}
+use Rattle.rk_outside.specs.declared.error.SourceError.{SourceError}
+use Rattle.rk_merge.specs.Cuts.{place_near}
+use Rattle.rk_model.specs.Sources.{Seen, Goes, points_below}
+use Rattle.rk_model.specs.declared.op.Entry.{Entry}
+use Rattle.rk_pointmerge.specs.Merges.{merging_seen}
+use Rattle.rk_pointmerge.specs.MergeLaws.{united-sorted}
+use Rattle.rk_pointmerge.specs.Views.{viewed, viewing_seen, marked}
+use Rattle.rk_pointmerge.proofs.ViewPlaces.{view_goes, view_refused}
+use Rattle.rk_pointmerge.proofs.visible.seek.Goals as goal
+
+pub returns-clause-goes : goal.returns-clause-goes
+returns-clause-goes g c =
+    let seen = g.S.PointList.seen in
+    let v = c.visible.inside in
+    let s = merging_seen seen v.merge in
+    let t = merging_seen seen c.seek.new.points in
+    let to : List Entry → Option ℕ = λ es. place_near c.args.ahead (points_below c.args.key.now es) (length es) in
+    let small : 9223372036854775808 < 2 ^ 64 = lit< tt in
+    let goes = view_goes s t v.n 9223372036854775808 v.mark c.in_ok-there.there to c.in_ok-there.ensures.runs.same (united-sorted seen c.seek.new.points.sources) small c.in_ok-there.ensures.ok in
+    rw c.mark-visible-inside.ensures (subst (λ (x : Seen Entry). Goes {T = Unit {0}} {E = SourceError} x (viewed t v.n (marked c.in_ok-there.there 9223372036854775808)) to (Ok tt)) (ap (viewing_seen seen) c.visible.view_is) goes)
+
+pub returns-in_err-there-clause-goes : goal.returns-in_err-there-clause-goes
+returns-in_err-there-clause-goes g c =
+    let seen = g.S.PointList.seen in
+    let v = c.visible.inside in
+    let s = merging_seen seen v.merge in
+    let t = merging_seen seen c.seek.new.points in
+    let to : List Entry → Option ℕ = λ es. place_near c.args.ahead (points_below c.args.key.now es) (length es) in
+    let p = err_from_is_err_and c.from_residual.result c.from_residual.ensures.1 in
+    let goes = view_refused s t v.n v.mark to p.0 c.in_err-there.ensures.runs.same in
+    rw p.1 (subst (λ (x : Seen Entry). Goes {T = Unit {0}} {E = SourceError} x (viewed t v.n None) to (Err p.0)) (ap (viewing_seen seen) c.visible.view_is) goes)

@@ -1,0 +1,37 @@
+-- The laws of what is visible as a source.
+use Rattle.std.specs.Prelude.{◌≡◌, ◌≤◌, ℕ, true, List, Option, Some, None, option_map, IfSome, IsTrue}
+use Rattle.std.specs.List.{list_all}
+use Rattle.std.specs.Option.{option_map_or}
+use Rattle.std.specs.Ordering.{is_lt}
+use Rattle.std.proofs.Common.{arith}
+use Rattle.std.specs.Cmp.{IsTotalOrder}
+use Rattle.std.proofs.lemmas.Cmp.{then_total, on_total, back_total, nat_cmp_total}
+use Rattle.rk_key.specs.Laws.{key_cmp-total}
+use Rattle.rk_model.specs.Sources.{Seen, are_points, ascends, entry_cmp, op_key, TurnsAreBounded}
+use Rattle.rk_model.specs.Covers.{is_point}
+use Rattle.rk_model.specs.declared.op.Entry.{Entry}
+use Rattle.rk_merge.proofs.Lists.{and_parts, and_true, all_filter, filter_ascends}
+use Rattle.rk_pointmerge.specs.Merges.{merging_seen}
+use Rattle.rk_pointmerge.specs.MergeLaws.{united-sorted}
+use Rattle.rk_pointmerge.specs.Views.{Viewing, viewing_seen, visible, is_visible}
+
+entry_cmp-total : IsTotalOrder entry_cmp
+entry_cmp-total = then_total (on_total (λ (e : Entry). op_key e.op) key_cmp-total) (on_total (λ (e : Entry). e.seq) (back_total nat_cmp_total))
+
+pub visible-points : (n : ℕ) (es : List Entry) → are_points es ≡ true → are_points (visible n es) ≡ true
+visible-points n es sorted =
+    let parts = and_parts (list_all (λ e. is_point e.op) es) (ascends (λ e f. is_lt (entry_cmp e f)) es) sorted in
+    and_true _ _ (all_filter (λ e. is_point e.op) (is_visible n es) es parts.0) (filter_ascends entry_cmp-total (is_visible n es) es parts.1)
+
+pub viewed-sorted : {S : Type 0} (seen : S → Seen Entry) (v : Viewing S) → IfSome (viewing_seen seen v).held (λ xs. IsTrue (are_points xs))
+viewed-sorted seen v = go (merging_seen seen v.merge).held (united-sorted seen v.merge.sources)
+  where
+    go : (h : Option (List Entry)) → IfSome h (λ xs. IsTrue (are_points xs)) → IfSome (option_map (visible v.n) h) (λ xs. IsTrue (are_points xs))
+    go None w = tt
+    go (Some es) w = visible-points v.n es w
+
+pub viewed-turns : {S : Type 0} (seen : S → Seen Entry) (v : Viewing S) → TurnsAreBounded (viewing_seen seen v)
+viewed-turns seen v = record { next = least (viewing_seen seen v).place; prev = least (viewing_seen seen v).place }
+  where
+    least : (p : Option ℕ) → 0 ≤ option_map_or (λ (i : ℕ). 0) p 0
+    least p = omega arith
