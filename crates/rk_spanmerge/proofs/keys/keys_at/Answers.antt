@@ -1,0 +1,23 @@
+use Rattle.std.proofs.Common.{arith, ◌-◌}
+use Rattle.rk_model.proofs.Walks.{drop_before}
+use Rattle.rk_spanmerge.proofs.Shown.{keys_start, keys_more, keys_end}
+use Rattle.rk_spanmerge.proofs.keys.keys_at.Goals as goal
+
+pub loop-i-init : goal.loop-i-init
+loop-i-init g c = record {
+  put = keys_start g.S.SpanList.seen c.args.sources.now c.args.key.now c.new-keys.result.items c.new-keys.ensures.items;
+  falls = rw c.new-keys.ensures.items tt;
+}
+
+pub loop-i-preserved : goal.loop-i-preserved
+loop-i-preserved g c =
+    let ss = c.args.sources.now in
+    let e = c.index-sources-i.result in
+    record {
+      put = keys_more g.S.SpanList.seen ss c.args.key.now c.loop-i.i (c.loop-i.i - 1) e c.loop-i.keys.items c.insert_shown.new.keys.items (omega arith) c.index-sources-i.is
+          (drop_before ss c.loop-i.i e (omega arith) (omega arith) c.index-sources-i.is) c.in_ok-insert_shown.ensures.told c.loop-i.invariant.put;
+      falls = c.in_ok-insert_shown.ensures.falls;
+    }
+
+pub returns : goal.returns
+returns g c = keys_end g.S.SpanList.seen c.args.sources.now c.args.key.now c.loop-i.i c.loop-i.keys.items (omega arith) c.loop-i.invariant.put

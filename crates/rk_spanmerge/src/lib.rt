@@ -1,0 +1,21 @@
+//! The spans of several sources as one list.
+//!
+//! A [`SpanMerge`] holds at every key the range keys that its sources hold there, newest first
+//! ([`each_key_has_its_range_keys`]), cut at every start and end of every source's spans. Each move and seek is
+//! exact on that list, in both directions, and seeks in each source at most four times.
+//!
+//! It stands on the keys of `rk_key`, the causes of refusals of `rk_outside`, the sources of `rk_model`, the
+//! range keys by falling numbers of `rk_fragment`, and the cuts of sorted lists of `rk_merge`.
+#![tactic(auto)]
+
+mod all;
+mod find;
+mod keys;
+mod laws;
+mod merge;
+
+pub use laws::{each_key_has_its_range_keys, read_keys_are_distinct};
+pub use merge::SpanMerge;
+
+#[cfg(test)]
+mod tests;
