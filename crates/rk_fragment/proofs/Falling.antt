@@ -1,12 +1,12 @@
 -- Range keys by falling numbers.
-use Rattle.std.proofs.Common.{◌≡◌, ℕ, zero, suc, ◌<◌, ◌≤◌, Bool, true, false, cond, List, [], ◌∷◌, length, get_or, refl, arith}
+use Rattle.std.proofs.Common.{◌≡◌, ◌≢◌, ℕ, zero, suc, ◌<◌, ◌≤◌, Bool, true, false, cond, List, [], ◌∷◌, length, get_or, refl, arith}
 use Rattle.std.specs.Prelude.{nat_lt}
 use Rattle.std.specs.List.{AllByRecursion, insert}
 use Rattle.std.specs.List.Sorted.{IsPartitionPoint, IsPartitionedBy}
 use Rattle.std.proofs.lemmas.Bool.Decides.{nat_tests}
 use Rattle.rk_model.specs.declared.span.RangeKey.{RangeKey}
-use Rattle.rk_fragment.specs.Fragments.{insert_newest, FallsBy}
-use Rattle.rk_fragment.proofs.Rising.{all_weaker}
+use Rattle.rk_fragment.specs.Fragments.{insert_newest, newest_first, FallsBy, KeysDiffer}
+use Rattle.rk_model.proofs.Lists.{all_weaker}
 
 pub lt_is : (m n : ℕ) → nat_lt m n ≡ true → m < n
 lt_is m n h = grind (arith, nat_tests)
@@ -36,6 +36,17 @@ module _ (R : ℕ → ℕ → Type 0) (from_less : (m n : ℕ) → m < n → R m
       go false e ih =
           let le : q.seq ≤ k.seq = ge_is k.seq q.seq e in
           ((h.0 le, all_weaker (λ r. R r.seq q.seq) (λ r. R r.seq k.seq) (λ r m. chain r.seq q.seq k.seq m le) qs f.0), f)
+
+all_newest : (P : RangeKey → Type 0) (ks : List RangeKey) → AllByRecursion P ks → AllByRecursion P (newest_first ks)
+all_newest P [] h = tt
+all_newest P (k ∷ ks) h = all_inserted P k (newest_first ks) h.0 (all_newest P ks h.1)
+
+pub newest_falls : (ks : List RangeKey) → KeysDiffer ks → FallsBy (λ m n. m < n) (newest_first ks)
+newest_falls [] h = tt
+newest_falls (k ∷ ks) h =
+    let others = all_newest (λ q. q.seq ≢ k.seq) ks h.0 in
+    insert_falls (λ m n. m < n) (λ m n less. less) (λ l m n less le. omega arith) k (newest_first ks)
+    (all_weaker (λ q. q.seq ≢ k.seq) (λ q. q.seq ≤ k.seq → q.seq < k.seq) (λ q other le. omega arith) (newest_first ks) others) (newest_falls ks h.1)
 
 every : (k : RangeKey) (qs : List RangeKey) → AllByRecursion (λ q. q.seq ≤ k.seq → q.seq ≤ k.seq) qs
 every k [] = tt

@@ -11,7 +11,8 @@ use Rattle.rk_model.specs.declared.op.Entry.{Entry}
 use Rattle.rk_model.specs.declared.span.RangeKey.{RangeKey}
 use Rattle.rk_fragment.specs.Fragments.{range_key, newest_first, keys_at}
 use Rattle.rk_fragment.proofs.Order.{lt}
-use Rattle.rk_fragment.proofs.Rising.{IsIn, EndsIn, all_weaker}
+use Rattle.rk_model.proofs.Lists.{all_weaker}
+use Rattle.rk_fragment.proofs.Rising.{IsIn, EndsIn}
 
 -- the range key of an entry, where the entry is over the key
 abbrev pub key_over : List ℕ → ℕ → Op → Option RangeKey

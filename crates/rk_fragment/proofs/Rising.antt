@@ -12,13 +12,10 @@ use Rattle.rk_model.specs.Spans.{op_ends, insert_key, sorted_keys}
 use Rattle.rk_model.specs.declared.op.Op.{Op}
 use Rattle.rk_model.specs.declared.op.Op.TheVariants.{Put, Del, RangeSet, RangeUnset, RangeDel}
 use Rattle.rk_model.specs.declared.op.Entry.{Entry}
+use Rattle.rk_model.proofs.Lists.{all_weaker}
 use Rattle.rk_fragment.specs.Fragments.{written}
 use Rattle.rk_fragment.specs.Intervals.{Rises}
 use Rattle.rk_fragment.proofs.Order.{lt, lt_trans, apart, alike, eq_is}
-
-pub all_weaker : {X : Type 0} (P Q : X → Type 0) → ((x : X) → P x → Q x) → (xs : List X) → AllByRecursion P xs → AllByRecursion Q xs
-all_weaker P Q w [] h = tt
-all_weaker P Q w (x ∷ xs) h = (w x h.0, all_weaker P Q w xs h.1)
 
 -- an insert into a set of keys is the insert of the definition
 pub insert_is : (x : List ℕ) (ks : List (List ℕ)) → set.insert_key key_cmp ks x ≡ insert_key x ks

@@ -11,18 +11,18 @@ use Rattle.rk_model.specs.declared.op.Op.TheVariants.{Put, Del, RangeSet, RangeU
 use Rattle.rk_model.specs.declared.op.Entry.{Entry}
 use Rattle.rk_model.specs.declared.span.RangeKey.{RangeKey}
 use Rattle.rk_model.specs.declared.span.Span.{Span}
-use Rattle.rk_fragment.specs.Fragments.{range_key, newest_first, keys_at, written, span_with, FallsBy, NumbersDiffer, FragmentsAreSpans}
+use Rattle.rk_fragment.specs.Fragments.{range_key, newest_first, keys_at, written, span_with, spans_between, FallsBy, NumbersDiffer, FragmentsAreSpans}
 use Rattle.rk_fragment.specs.Intervals.{Rises}
 use Rattle.rk_fragment.proofs.Order.{lt, lt_itself, lt_trans}
-use Rattle.rk_fragment.proofs.Rising.{all_weaker, sorted_rises}
+use Rattle.rk_model.proofs.Lists.{all_weaker}
+use Rattle.rk_fragment.proofs.Rising.{sorted_rises}
 use Rattle.rk_fragment.proofs.Falling.{lt_says, insert_falls, all_inserted}
-use Rattle.rk_fragment.proofs.Exact.{spans_along}
 
 ascends_cons : {A : Type 0} (before : A → A → Bool) (x : A) (xs : List A) → AllByRecursion (λ y. before x y ≡ true) xs → ascends before xs ≡ true → ascends before (x ∷ xs) ≡ true
 ascends_cons before x [] h a = refl
 ascends_cons before x (y ∷ ys) h a = rw (h.0, a) refl
 
-falling_ascends : (ks : List RangeKey) → FallsBy (λ m n. m < n) ks → are_newest_first ks ≡ true
+pub falling_ascends : (ks : List RangeKey) → FallsBy (λ m n. m < n) ks → are_newest_first ks ≡ true
 falling_ascends [] h = refl
 falling_ascends (k ∷ ks) h =
     ascends_cons (λ j q. nat_lt q.seq j.seq) k ks (all_weaker (λ q. q.seq < k.seq) (λ q. nat_lt q.seq k.seq ≡ true) (λ q m. lt_says q.seq k.seq m) ks h.0) (falling_ascends ks h.1)
@@ -69,44 +69,45 @@ module _ (x : List ℕ) where
       go true ih = put e.op ih
       go false ih = ih
 
-module _ (es : List Entry) (differ : NumbersDiffer es) where
+-- spans between ends that rise, where the range keys at each of them fall
+module _ (keys : List ℕ → List RangeKey) (falling : (x : List ℕ) → are_newest_first (keys x) ≡ true) where
   -- each span is one
-  all_spans : (a : List ℕ) (ends : List (List ℕ)) → Rises (a ∷ ends) → list_all is_span (spans_along es (a ∷ ends)) ≡ true
+  all_spans : (a : List ℕ) (ends : List (List ℕ)) → Rises (a ∷ ends) → list_all is_span (spans_between keys (a ∷ ends)) ≡ true
   all_spans a [] h = refl
-  all_spans a (b ∷ bs) h = go (keys_at es a) refl (all_spans b bs h.1)
+  all_spans a (b ∷ bs) h = go (keys a) refl (all_spans b bs h.1)
     where
-      go : (keys : List RangeKey) → keys_at es a ≡ keys → list_all is_span (spans_along es (b ∷ bs)) ≡ true → list_all is_span (cons_option (span_with a b keys) (spans_along es (b ∷ bs))) ≡ true
+      go : (some : List RangeKey) → keys a ≡ some → list_all is_span (spans_between keys (b ∷ bs)) ≡ true → list_all is_span (cons_option (span_with a b some) (spans_between keys (b ∷ bs))) ≡ true
       go [] e ih = ih
       go (k ∷ ks) e ih =
-          let falling : are_newest_first (k ∷ ks) ≡ true = ap are_newest_first (sym e) ∙ falling_ascends (keys_at es a) (falls a es differ) in
-          rw (h.0.0, falling, ih) refl
+          let first : are_newest_first (k ∷ ks) ≡ true = ap are_newest_first (sym e) ∙ falling a in
+          rw (h.0.0, first, ih) refl
 
   -- none begins below the first end
-  none_before : (c a : List ℕ) (ends : List (List ℕ)) → Rises (a ∷ ends) → lt a c ≡ false → AllByRecursion (λ s. not (lt s.start c) ≡ true) (spans_along es (a ∷ ends))
+  none_before : (c a : List ℕ) (ends : List (List ℕ)) → Rises (a ∷ ends) → lt a c ≡ false → AllByRecursion (λ s. not (lt s.start c) ≡ true) (spans_between keys (a ∷ ends))
   none_before c a [] h g = tt
-  none_before c a (b ∷ bs) h g = go (keys_at es a) (none_before c b bs h.1 (later (lt b c) refl))
+  none_before c a (b ∷ bs) h g = go (keys a) (none_before c b bs h.1 (later (lt b c) refl))
     where
       later : (t : Bool) → lt b c ≡ t → t ≡ false
       later false e = refl
       later true e = let f : lt a c ≡ true = lt_trans a b c h.0.0 e in cc
 
-      go : (keys : List RangeKey) → AllByRecursion (λ s. not (lt s.start c) ≡ true) (spans_along es (b ∷ bs)) → AllByRecursion (λ s. not (lt s.start c) ≡ true) (cons_option (span_with a b keys) (spans_along es (b ∷ bs)))
+      go : (some : List RangeKey) → AllByRecursion (λ s. not (lt s.start c) ≡ true) (spans_between keys (b ∷ bs)) → AllByRecursion (λ s. not (lt s.start c) ≡ true) (cons_option (span_with a b some) (spans_between keys (b ∷ bs)))
       go [] ih = ih
       go (k ∷ ks) ih = (ap not g, ih)
 
-  one_after_other : (a : List ℕ) (ends : List (List ℕ)) → Rises (a ∷ ends) → ascends (λ s t. not (lt t.start s.end)) (spans_along es (a ∷ ends)) ≡ true
+  one_after_other : (a : List ℕ) (ends : List (List ℕ)) → Rises (a ∷ ends) → ascends (λ s t. not (lt t.start s.end)) (spans_between keys (a ∷ ends)) ≡ true
   one_after_other a [] h = refl
-  one_after_other a (b ∷ bs) h = go (keys_at es a) (one_after_other b bs h.1)
+  one_after_other a (b ∷ bs) h = go (keys a) (one_after_other b bs h.1)
     where
-      go : (keys : List RangeKey) → ascends (λ s t. not (lt t.start s.end)) (spans_along es (b ∷ bs)) ≡ true → ascends (λ s t. not (lt t.start s.end)) (cons_option (span_with a b keys) (spans_along es (b ∷ bs))) ≡ true
+      go : (some : List RangeKey) → ascends (λ s t. not (lt t.start s.end)) (spans_between keys (b ∷ bs)) ≡ true → ascends (λ s t. not (lt t.start s.end)) (cons_option (span_with a b some) (spans_between keys (b ∷ bs))) ≡ true
       go [] ih = ih
       go (k ∷ ks) ih =
           let span : Span = record { start = a; end = b; keys = k ∷ ks } in
-          ascends_cons (λ s t. not (lt t.start s.end)) span (spans_along es (b ∷ bs)) (none_before b b bs h.1 (lt_itself b)) ih
+          ascends_cons (λ s t. not (lt t.start s.end)) span (spans_between keys (b ∷ bs)) (none_before b b bs h.1 (lt_itself b)) ih
 
-  sound_along : (ends : List (List ℕ)) → Rises ends → are_spans (spans_along es ends) ≡ true
-  sound_along [] h = refl
-  sound_along (a ∷ ends) h = rw (all_spans a ends h, one_after_other a ends h) refl
+  pub sound_between : (ends : List (List ℕ)) → Rises ends → are_spans (spans_between keys ends) ≡ true
+  sound_between [] h = refl
+  sound_between (a ∷ ends) h = rw (all_spans a ends h, one_after_other a ends h) refl
 
 pub sound : FragmentsAreSpans
-sound es differ = sound_along es differ (written es) (sorted_rises (flat_map (λ e. op_ends e.op) es))
+sound es differ = sound_between (keys_at es) (λ x. falling_ascends (keys_at es x) (falls x es differ)) (written es) (sorted_rises (flat_map (λ e. op_ends e.op) es))

@@ -43,9 +43,13 @@ written es = sorted_keys (flat_map (λ e. op_ends e.op) es)
 abbrev pub span_with : List ℕ → List ℕ → List RangeKey → Option Span
 span_with start end keys = if none_of keys then None else Some (record { start = start; end = end; keys = keys })
 
--- one span from each written end to the next that some range key is over
+-- one span from each end to the next that some range key is over
+abbrev pub spans_between : (List ℕ → List RangeKey) → List (List ℕ) → List Span
+spans_between keys ends = filter_map (λ ab. span_with ab.0 ab.1 (keys ab.0)) (zip ends (drop 1 ends))
+
+-- those of the written ends
 abbrev pub fragments : List Entry → List Span
-fragments es = let ends = written es in filter_map (λ ab. span_with ab.0 ab.1 (keys_at es ab.0)) (zip ends (drop 1 ends))
+fragments es = spans_between (keys_at es) (written es)
 
 -- the keys of those spans that a key lies in
 abbrev pub keys_over : List Span → List ℕ → List RangeKey
@@ -55,6 +59,11 @@ keys_over spans x = flat_map (λ s. s.keys) (filter (λ s. within s.start s.end 
 abbrev pub FallsBy : (ℕ → ℕ → Type 0) → List RangeKey → Type 0
 FallsBy R [] = Unit {0}
 FallsBy R (k ∷ ks) = AllByRecursion (λ q. R q.seq k.seq) ks × FallsBy R ks
+
+-- no two range keys have one number
+abbrev pub KeysDiffer : List RangeKey → Type 0
+KeysDiffer [] = Unit {0}
+KeysDiffer (k ∷ ks) = AllByRecursion (λ q. q.seq ≢ k.seq) ks × KeysDiffer ks
 
 -- no two entries have one number
 abbrev pub NumbersDiffer : List Entry → Type 0

@@ -3,9 +3,8 @@ ghost use Rattle.std.specs.Prelude.{◌≡◌, IfOk, OnOk, MatchOption, [], ◌�
 ghost use Rattle.rk_model.specs.Spans.{op_ends, insert_key};
 ghost use Rattle.rk_fragment.specs.Fragments.{written};
 
-use crate::copies::copy_key;
 use rk_key::UserKey;
-use rk_model::{Entry, Op};
+use rk_model::{Entry, Op, copy_key};
 use rk_outside::NoMemory;
 use std::alloc::Global;
 use std::collections::BTreeSet;

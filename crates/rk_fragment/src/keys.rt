@@ -1,5 +1,5 @@
 // Range keys by falling numbers.
-ghost use Rattle.std.specs.Prelude.{◌≡◌, ◌≤◌, nat_lt, true, false, [], length, IfOk, OnOk};
+ghost use Rattle.std.specs.Prelude.{◌≡◌, ◌≤◌, nat_lt, true, false, [], length, IfOk, OnOk, OnErr};
 ghost use Rattle.std.specs.List.Sorted.{IsPartitionPoint};
 ghost use Rattle.rk_model.specs.Lists.{none_of};
 ghost use Rattle.rk_fragment.specs.Fragments.{range_key, insert_newest, FallsBy};
@@ -12,7 +12,7 @@ use std::marker::Model;
 
 /// Range keys, newest first. Contracts see the list.
 #[derive(Debug, Drop)]
-pub(crate) struct NewestFirst {
+pub struct NewestFirst {
     keys: Vec<RangeKey>,
 }
 
@@ -29,7 +29,8 @@ impl Model for NewestFirst {
 }
 
 impl NewestFirst {
-    pub(crate) fn new(alloc: Global) -> NewestFirst
+    /// No range keys yet. It takes no memory.
+    pub fn new(alloc: Global) -> NewestFirst
         ensures { result ≡ [] }
     {
         NewestFirst {
@@ -37,22 +38,29 @@ impl NewestFirst {
         }
     }
 
-    pub(crate) fn has_none(&self) -> bool
+    /// Whether there are none.
+    pub fn has_none(&self) -> bool
         ensures { result ≡ none_of self.now }
     {
         matches!(self.keys.as_slice(), [])
     }
 
     /// Puts a key before the first that isn't newer.
-    pub(crate) fn insert(&mut self, key: RangeKey) -> Result<(), NoMemory>
-        ensures { OnOk result (self.new ≡ insert_newest key self.old) }
+    ///
+    /// # Errors
+    ///
+    /// `NoMemory`.
+    pub fn insert(&mut self, key: RangeKey) -> Result<(), NoMemory>
+        ensures ok { OnOk result (self.new ≡ insert_newest key self.old) }
+        ensures err { OnErr result (self.new ≡ self.old) }
     {
         let at = count_newer(&self.keys, &key);
         self.keys.insert(at, key)?;
         Ok(())
     }
 
-    pub(crate) fn into_keys(self) -> RangeKeys
+    /// The range keys of a span.
+    pub fn into_keys(self) -> RangeKeys
         ensures { result ≡ self }
     {
         RangeKeys::from_vec(self.keys)

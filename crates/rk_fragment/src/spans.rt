@@ -4,10 +4,9 @@ ghost use Rattle.std.specs.Option.{option_to_list};
 ghost use Rattle.rk_fragment.specs.Fragments.{span_with, fragments};
 ghost use Rattle.rk_fragment.specs.Intervals.{spans_of};
 
-use crate::copies::copy_key;
 use crate::intervals::{Interval, intervals_of};
 use rk_key::UserKey;
-use rk_model::{Entry, Span};
+use rk_model::{Entry, Span, copy_key};
 use rk_outside::NoMemory;
 use std::alloc::Global;
 

@@ -1,5 +1,6 @@
 pub mod Decimals
 pub mod Equality
+pub mod KeyTests
 pub mod Parts
 pub mod Places
 pub mod Suffixes

@@ -1,3 +1,4 @@
 pub mod Keys
+pub mod KeyTests
 pub mod Laws
 pub mod Refusals

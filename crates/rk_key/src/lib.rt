@@ -16,7 +16,7 @@ mod suffix;
 
 pub use error::{KeyError, Which};
 pub use key::{UserKey, read_key};
-pub use order::{compare, split};
+pub use order::{compare, compare_suffixes, split};
 pub use suffix::{Suffix, read_suffix};
 
 #[cfg(test)]

@@ -33,7 +33,7 @@ pub fn compare(a: &[u8], b: &[u8]) -> Ordering
 }
 
 /// The order of two suffixes: the empty one first, then larger numbers before smaller ones.
-pub(crate) fn compare_suffixes(a: &[u8], b: &[u8]) -> Ordering
+pub fn compare_suffixes(a: &[u8], b: &[u8]) -> Ordering
     requires a_is_suffix { IsSuffix a.now }
     requires b_is_suffix { IsSuffix b.now }
     ensures { result ≡ suffix_cmp a.now b.now }

@@ -17,7 +17,7 @@ use Rattle.rk_model.specs.declared.op.Op.TheVariants.{Put, Del, RangeSet, RangeU
 use Rattle.rk_model.specs.declared.op.Entry.{Entry}
 use Rattle.rk_model.specs.declared.span.SuffixValue.{SuffixValue}
 use Rattle.rk_laws.specs.Newer.{with_entry, with_point, CoverAfterEntry, PointAfterEntry}
-use Rattle.rk_laws.proofs.Lists.{all_filter, all_pass, all_weaker, filter_none, any_none, kept_if, filter_map_kept, or_true}
+use Rattle.rk_model.proofs.Lists.{all_filter, all_pass, all_weaker, filter_none, any_none, kept_if, filter_map_kept, or_true}
 use Rattle.rk_laws.proofs.Order.{suffix_total}
 use Rattle.rk_laws.proofs.Pairs.{alike, by_suffix_last, by_suffix_filter}
 use Rattle.rk_laws.proofs.Plain.{cover_of, value_of}

@@ -18,7 +18,8 @@ use Rattle.rk_model.specs.declared.op.Entry.{Entry}
 use Rattle.rk_model.specs.declared.span.SuffixValue.{SuffixValue}
 use Rattle.rk_model.specs.declared.options.IterOptions.{IterOptions}
 use Rattle.rk_laws.specs.SameCells.{op_keys, WellFormed, KeyBounds, SameCovers, GiveSameCovers, SpansOfCovers, SpanStartsOfCovers}
-use Rattle.rk_laws.proofs.Members.{Among, among_all, among_filter, filter_among, flat_map_among, same_ascending}
+use Rattle.rk_model.specs.Lists.{Among}
+use Rattle.rk_model.proofs.Members.{among_all, among_filter, filter_among, flat_map_among, same_ascending}
 use Rattle.rk_laws.proofs.Order.{key_total, lt_trans, ge_trans, eq_is, eq_from}
 use Rattle.rk_laws.proofs.Ends.{lt, Like, IsEnd, lower, upper, inner, is_end, end_is, Floor, none, some, floor, sorted_among, among_sorted, sorted_ascends}
 use Rattle.rk_laws.proofs.Plain.{cover_alike}

@@ -14,7 +14,8 @@ use Rattle.rk_model.specs.declared.span.SuffixValue.{SuffixValue}
 use Rattle.rk_laws.specs.Prefixes.{spans_over, points_on}
 use Rattle.rk_laws.specs.KeptCells.{NumbersDiffer}
 use Rattle.rk_laws.specs.SameEntries.{without_ends, effects_over, SameElements, CoverOfEffects, PointOfElements, CellsInAnyOrder}
-use Rattle.rk_laws.proofs.Members.{Among, Ascending, among_all, all_among, among_filter, filter_among, among_map, map_among, among_contained, contains_among, any_from, any_gives, any_false, among_filter_map, filter_map_among, first_among, first_is, same_ascending, none_any}
+use Rattle.rk_model.specs.Lists.{Among}
+use Rattle.rk_model.proofs.Members.{Ascending, among_all, all_among, among_filter, filter_among, among_map, map_among, among_contained, contains_among, any_from, any_gives, any_false, among_filter_map, filter_map_among, first_among, first_is, same_ascending, none_any}
 use Rattle.rk_laws.proofs.Order.{suffix_total, lt_itself, lt_back, lt_trans, apart}
 use Rattle.rk_laws.proofs.Pairs.{less, alike}
 use Rattle.rk_laws.proofs.Plain.{cover_of, is_span}

@@ -10,7 +10,8 @@ use Rattle.rk_model.specs.declared.op.Op.{Op}
 use Rattle.rk_model.specs.declared.op.Op.TheVariants.{Put, Del, RangeSet, RangeUnset, RangeDel}
 use Rattle.rk_model.specs.declared.op.Entry.{Entry}
 use Rattle.rk_model.specs.declared.options.IterOptions.{IterOptions}
-use Rattle.rk_laws.proofs.Members.{Among, among_flat_map}
+use Rattle.rk_model.specs.Lists.{Among}
+use Rattle.rk_model.proofs.Members.{among_flat_map}
 use Rattle.rk_laws.proofs.Order.{key_total, lt_itself, lt_back, lt_trans, ge_trans, ge_lt}
 use Rattle.rk_laws.proofs.Ends.{lt, Like, IsEnd, lower, upper, inner, is_end, end_is}
 use Rattle.rk_laws.proofs.Plain.{all_ends, is_span, cover_agrees, cover_none}

@@ -8,7 +8,8 @@ use Rattle.rk_model.specs.declared.op.Op.{Op}
 use Rattle.rk_model.specs.declared.op.Op.TheVariants.{Put, Del, RangeSet, RangeUnset, RangeDel}
 use Rattle.rk_model.specs.declared.op.Entry.{Entry}
 use Rattle.rk_model.specs.declared.span.SuffixValue.{SuffixValue}
-use Rattle.rk_laws.proofs.Members.{Among, among_append, among_left, among_right, among_filter, filter_among, any_gives, any_false}
+use Rattle.rk_model.specs.Lists.{Among}
+use Rattle.rk_model.proofs.Members.{among_append, among_left, among_right, among_filter, filter_among, any_gives, any_false}
 use Rattle.rk_laws.proofs.Plain.{cover_of}
 
 -- of the entries that pass a test, one with the greatest number, or that none passes

@@ -8,7 +8,8 @@ use Rattle.rk_key.specs.Keys.{key_cmp}
 use Rattle.rk_model.specs.Spans.{above, below, op_ends, insert_key, sorted_keys, written_ends}
 use Rattle.rk_model.specs.declared.op.Entry.{Entry}
 use Rattle.rk_model.specs.declared.options.IterOptions.{IterOptions}
-use Rattle.rk_laws.proofs.Members.{Among, Ascending, among_all, all_among, among_left, among_right, among_append, among_filter, filter_among}
+use Rattle.rk_model.specs.Lists.{Among}
+use Rattle.rk_model.proofs.Members.{Ascending, among_all, all_among, among_left, among_right, among_append, among_filter, filter_among}
 use Rattle.rk_laws.proofs.Order.{key_total, lt_itself, lt_back, lt_trans, ge_trans, eq_is, apart}
 
 abbrev pub lt : List ℕ → List ℕ → Bool

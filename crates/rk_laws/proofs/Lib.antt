@@ -1,5 +1,3 @@
-pub mod Lists
-pub mod Members
 pub mod Order
 pub mod Ends
 pub mod Plain

@@ -9,7 +9,7 @@ use Rattle.rk_key.specs.Keys.{IsKey, suffix, key_cmp}
 use Rattle.rk_key.proofs.Equality.{same_key}
 use Rattle.rk_model.specs.Operations.{is_over}
 use Rattle.rk_model.specs.Covers.{over, is_point, newest, put_value, point, cover}
-use Rattle.rk_model.specs.Lists.{none_of}
+use Rattle.rk_model.specs.Lists.{none_of, Among}
 use Rattle.rk_model.specs.Spans.{in_bounds, WidestSpan, widest_span}
 use Rattle.rk_model.specs.Positions.{hides, is_masked, shown, put_key, positions, Report, report}
 use Rattle.rk_model.specs.Moves.{Move, First, Last, Next, Prev, SeekGe, SeekLt, least, greatest, raised, lowered, sought, moved, span_of, same_span, key_at, span_changed}
@@ -21,7 +21,7 @@ use Rattle.rk_model.specs.declared.options.IterOptions.{IterOptions}
 use Rattle.rk_model.specs.declared.cursor.Cursor.{Cursor}
 use Rattle.rk_model.specs.declared.cursor.Cursor.TheVariants.{Fresh, Start, At, End}
 use Rattle.rk_laws.specs.SameCells.{op_keys, WellFormed, KeyBounds, GiveSameCovers, GiveSameCells, PositionsOfCells, ReportsOfCells, SeeksKey, MovesOfCells, AtKeyWithin, MovesToKeys, ChangesOfCovers, ViewsOfCells}
-use Rattle.rk_laws.proofs.Members.{Among, among_append, among_left, among_right, among_filter, filter_among, among_flat_map, flat_map_among, first_among}
+use Rattle.rk_model.proofs.Members.{among_append, among_left, among_right, among_filter, filter_among, among_flat_map, flat_map_among, first_among}
 use Rattle.rk_laws.proofs.Order.{key_total, eq_is}
 use Rattle.rk_laws.proofs.Ends.{lt, sorted_among}
 use Rattle.rk_laws.proofs.Agree.{key_of_op, sorted_same, span_ends_shared, span_end_keyed, turned, spans_of_covers}

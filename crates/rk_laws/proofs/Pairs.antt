@@ -5,7 +5,7 @@ use Rattle.std.specs.List.{AllByRecursion}
 use Rattle.rk_key.specs.Keys.{suffix_cmp}
 use Rattle.rk_model.specs.Covers.{insert_pair, by_suffix}
 use Rattle.rk_model.specs.declared.span.SuffixValue.{SuffixValue}
-use Rattle.rk_laws.proofs.Lists.{all_filter}
+use Rattle.rk_model.proofs.Lists.{all_filter}
 use Rattle.rk_laws.proofs.Order.{suffix_total, lt_back, lt_trans, ge_trans, lt_ge, apart}
 
 abbrev pub less : SuffixValue → SuffixValue → Bool

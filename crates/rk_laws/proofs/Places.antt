@@ -4,7 +4,7 @@ use Rattle.std.specs.Ordering.{is_lt}
 use Rattle.std.proofs.lemmas.Bool.{and_parts}
 use Rattle.rk_key.specs.Keys.{key_cmp}
 use Rattle.rk_model.specs.Covers.{cover}
-use Rattle.rk_model.specs.Lists.{first_of, last_of, none_of}
+use Rattle.rk_model.specs.Lists.{first_of, last_of, none_of, Among}
 use Rattle.rk_model.specs.Spans.{in_bounds, written_ends}
 use Rattle.rk_model.specs.Positions.{shown, put_key, begins_span, positions}
 use Rattle.rk_model.specs.Moves.{Move, First, Last, Next, Prev, SeekGe, SeekLt, at_or, least, greatest, raised, lowered, sought, moved}
@@ -13,7 +13,7 @@ use Rattle.rk_model.specs.declared.options.IterOptions.{IterOptions}
 use Rattle.rk_model.specs.declared.cursor.Cursor.{Cursor}
 use Rattle.rk_model.specs.declared.cursor.Cursor.TheVariants.{Fresh, Start, At, End}
 use Rattle.rk_laws.specs.Neighbours.{RisesStrictly, PositionsRise, CursorWithinBounds}
-use Rattle.rk_laws.proofs.Members.{Among, Ascending, among_append, filter_among, first_among}
+use Rattle.rk_model.proofs.Members.{Ascending, among_append, filter_among, first_among}
 use Rattle.rk_laws.proofs.Ends.{lt, sorted_ascends, sorted_among}
 
 -- the puts with a shown point

@@ -14,9 +14,10 @@ use Rattle.rk_model.specs.declared.op.Op.TheVariants.{Put, Del, RangeSet, RangeU
 use Rattle.rk_model.specs.declared.op.Entry.{Entry}
 use Rattle.rk_model.specs.declared.span.SuffixValue.{SuffixValue}
 use Rattle.rk_laws.specs.Prefixes.{PlainEnds, spans_over, CoverOfSpans, CoverOfPrefix, SpansOverPrefix, PointOfItsOwn}
-use Rattle.rk_laws.proofs.Members.{Among, among_all, all_among, among_left, among_right, flat_map_among, filter_among}
+use Rattle.rk_model.specs.Lists.{Among}
+use Rattle.rk_model.proofs.Members.{among_all, all_among, among_left, among_right, flat_map_among, filter_among}
 use Rattle.rk_laws.proofs.Ends.{lt}
-use Rattle.rk_laws.proofs.Lists.{filter_none, any_filter, filter_map_filter, filter_map_same, filter_twice, filter_swap}
+use Rattle.rk_model.proofs.Lists.{filter_none, any_filter, filter_map_filter, filter_map_same, filter_twice, filter_swap}
 use Rattle.rk_laws.proofs.Order.{lt_plain_prefix, key_total}
 
 -- the pairs that a list of entries over a key gives

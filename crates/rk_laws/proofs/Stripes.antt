@@ -9,7 +9,8 @@ use Rattle.std.proofs.lemmas.List.Elements.{recursion_from_All}
 use Rattle.rk_model.specs.declared.op.Entry.{Entry}
 use Rattle.rk_laws.specs.KeptCells.{NumbersDiffer}
 use Rattle.rk_model.specs.Kept.{stripe_of, same_stripe, in_lowest}
-use Rattle.rk_laws.proofs.Members.{Among, Ascending, all_among, among_all, among_filter, filter_among, first_among, first_least, ascending_filter}
+use Rattle.rk_model.specs.Lists.{Among}
+use Rattle.rk_model.proofs.Members.{Ascending, all_among, among_all, among_filter, filter_among, first_among, first_least, ascending_filter}
 
 pub pairs_head : {X : Type 0} (R : X → X → Type 0) (x : X) (xs : List X) → AllPairs R (x ∷ xs) → AllByRecursion (R x) xs
 pairs_head R x xs h = recursion_from_All (R x) xs (λ k d m. h 0 (suc k) d (omega arith) (omega arith))

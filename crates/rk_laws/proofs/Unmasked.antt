@@ -11,7 +11,7 @@ use Rattle.rk_model.specs.declared.op.Entry.{Entry}
 use Rattle.rk_model.specs.declared.span.SuffixValue.{SuffixValue}
 use Rattle.rk_model.specs.declared.options.IterOptions.{IterOptions}
 use Rattle.rk_laws.specs.Masks.{ShownAtOwnSuffix, ShownBeforeMask, ShownWithoutSuffix, ShownWithoutMask}
-use Rattle.rk_laws.proofs.Members.{contains_among, none_any}
+use Rattle.rk_model.proofs.Members.{contains_among, none_any}
 
 shown_from : (es : List Entry) (o : IterOptions) (x : List ℕ) → is_masked es o x ≡ false → shown es o x ≡ point es x
 shown_from es o x h = ap (λ b. if b then None else point es x) h

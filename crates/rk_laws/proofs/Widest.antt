@@ -7,13 +7,13 @@ use Rattle.std.proofs.lemmas.Cmp.{alike_right, tied_itself, tied_back, nat_list_
 use Rattle.std.proofs.lemmas.Map.Lookups.{exact_bytes}
 use Rattle.std.proofs.lemmas.Option.{same_Some}
 use Rattle.rk_model.specs.Covers.{cover}
-use Rattle.rk_model.specs.Lists.{none_of}
+use Rattle.rk_model.specs.Lists.{none_of, Among}
 use Rattle.rk_model.specs.Spans.{at_or_above, below, in_bounds, written_ends, same_bytes, same_cover, span_start, span_end, WidestSpan, widest_span}
 use Rattle.rk_model.specs.declared.op.Entry.{Entry}
 use Rattle.rk_model.specs.declared.span.SuffixValue.{SuffixValue}
 use Rattle.rk_model.specs.declared.options.IterOptions.{IterOptions}
 use Rattle.rk_laws.specs.Neighbours.{SpanOfEachCover, SpanHasOneCover, SpanOfItsKeys, SpanEndDiffers, BeforeSpanDiffers, is_between}
-use Rattle.rk_laws.proofs.Members.{Among, Ascending, among_all, ascending_filter, among_filter, filter_among, first_among, first_is, first_least, every_gives, every_from, any_false}
+use Rattle.rk_model.proofs.Members.{Ascending, among_all, ascending_filter, among_filter, filter_among, first_among, first_is, first_least, every_gives, every_from, any_false}
 use Rattle.rk_laws.proofs.Order.{key_total, lt_itself, lt_back, ge_trans, lt_ge, ge_lt, eq_is, eq_from}
 use Rattle.rk_laws.proofs.Ends.{lt, Like, IsEnd, lower, upper, inner, is_end, end_is, Floor, none, some, floor, ends_ascend, Greatest, empty, top, greatest}
 use Rattle.rk_laws.proofs.Plain.{cover_alike}

@@ -4,8 +4,7 @@ ghost use Rattle.rk_key.specs.Keys.{IsSuffix};
 ghost use Rattle.rk_model.specs.Positions.{hides};
 ghost use Rattle.rk_mask.specs.Masks.{masks};
 
-use crate::order::is_before;
-use rk_key::{Suffix, UserKey};
+use rk_key::{Suffix, UserKey, compare_suffixes};
 use rk_model::SuffixValue;
 
 /// Whether a mask hides a point on the key, where the pairs are the cover of the key.
@@ -33,5 +32,5 @@ fn hides(mask: &Suffix, suffix: &[u8], pair: &SuffixValue) -> bool
     requires { IsSuffix suffix.now }
     ensures { result ≡ hides mask.now suffix.now pair.now }
 {
-    pair.suffix >= *mask && is_before(&pair.suffix, suffix)
+    pair.suffix >= *mask && compare_suffixes(pair.suffix.bytes(), suffix).is_lt()
 }

@@ -10,7 +10,6 @@
 
 mod hiding;
 mod laws;
-mod order;
 
 pub use hiding::masks;
 pub use laws::a_point_is_hidden_where_the_cover_masks_it;

@@ -9,16 +9,8 @@ use Rattle.rk_model.specs.Sources.{ascends}
 use Rattle.rk_model.specs.declared.op.Entry.{Entry}
 use Rattle.rk_fragment.specs.Fragments.{NumbersDiffer}
 use Rattle.rk_fragment.proofs.Falling.{lt_is}
-use Rattle.rk_fragment.proofs.Rising.{all_weaker}
+use Rattle.rk_model.proofs.Lists.{all_filter, all_weaker}
 use Rattle.rk_mem.specs.Chunks.{NumbersRise}
-
-pub all_filter : {X : Type 0} (t : X → Bool) (P : X → Type 0) (xs : List X) → AllByRecursion P xs → AllByRecursion P (filter t xs)
-all_filter t P [] h = tt
-all_filter t P (x ∷ xs) h = go (t x) (all_filter t P xs h.1)
-  where
-    go : (a : Bool) → AllByRecursion P (filter t xs) → AllByRecursion P (cond a (x ∷ filter t xs) (filter t xs))
-    go true ih = (h.0, ih)
-    go false ih = ih
 
 -- those after an entry have greater numbers
 later : (e : Entry) (es : List Entry) → NumbersRise (e ∷ es) → AllByRecursion (λ f. e.seq < f.seq) es

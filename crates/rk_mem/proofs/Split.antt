@@ -17,34 +17,18 @@ use Rattle.rk_model.specs.declared.op.Op.TheVariants.{Put, Del, RangeSet, RangeU
 use Rattle.rk_model.specs.declared.op.Entry.{Entry}
 use Rattle.rk_model.specs.declared.span.RangeKey.{RangeKey}
 use Rattle.rk_fragment.specs.Fragments.{range_key, newest_first, span_with, fragments, NumbersDiffer}
-use Rattle.rk_fragment.proofs.Rising.{all_weaker}
+use Rattle.rk_model.proofs.Lists.{all_weaker, all_pass, filter_all, filter_none}
 use Rattle.rk_fragment.proofs.Sound.{sound}
 use Rattle.rk_mem.specs.Chunks.{points_of, ranges_of, NumbersRise, IsChunkOf}
 use Rattle.rk_mem.specs.SortedOut.{AreSortedOut}
 use Rattle.rk_mem.proofs.Numbers.{some_differ, rising_differ}
 
-filter_all : {X : Type 0} (t : X → Bool) (xs : List X) → AllByRecursion (λ x. t x ≡ true) xs → filter t xs ≡ xs
-filter_all t [] h = refl
-filter_all t (x ∷ xs) h = rw h.0 (ap (λ l. x ∷ l) (filter_all t xs h.1))
-
-filter_none : {X : Type 0} (t : X → Bool) (xs : List X) → AllByRecursion (λ x. t x ≡ false) xs → filter t xs ≡ []
-filter_none t [] h = refl
-filter_none t (x ∷ xs) h = rw h.0 (filter_none t xs h.1)
-
 all_true : {X : Type 0} (t : X → Bool) (xs : List X) → list_all t xs ≡ true → AllByRecursion (λ x. t x ≡ true) xs
 all_true t [] h = tt
 all_true t (x ∷ xs) h = let parts = and_parts (t x) (list_all t xs) h in (parts.0, all_true t xs parts.1)
 
-pub passed : {X : Type 0} (t : X → Bool) (xs : List X) → AllByRecursion (λ x. t x ≡ true) (filter t xs)
-passed t [] = tt
-passed t (x ∷ xs) = go (t x) refl (passed t xs)
-  where
-    go : (b : Bool) → t x ≡ b → AllByRecursion (λ x. t x ≡ true) (filter t xs) → AllByRecursion (λ x. t x ≡ true) (cond b (x ∷ filter t xs) (filter t xs))
-    go true e ih = (e, ih)
-    go false e ih = ih
-
 pub filter_again : {X : Type 0} (t : X → Bool) (xs : List X) → filter t (filter t xs) ≡ filter t xs
-filter_again t xs = filter_all t (filter t xs) (passed t xs)
+filter_again t xs = filter_all t (filter t xs) (all_pass t xs)
 
 -- points, and range entries behind them
 module _ (points ranges : List Entry) (in_order : IsTrue (are_points points)) (no_points : AllByRecursion (λ e. is_point e.op ≡ false) ranges) where
@@ -64,7 +48,7 @@ module _ (points ranges : List Entry) (in_order : IsTrue (are_points points)) (n
       ++ filter_all (λ e. not (is_point e.op)) ranges (all_weaker (λ e. is_point e.op ≡ false) (λ e. not (is_point e.op) ≡ true) (λ e h. ap not h) ranges no_points) i)
 
 no_points_in : (es : List Entry) → AllByRecursion (λ e. is_point e.op ≡ false) (ranges_of es)
-no_points_in es = all_weaker (λ e. not (is_point e.op) ≡ true) (λ e. is_point e.op ≡ false) (λ e h. not-true (is_point e.op) h) (ranges_of es) (passed (λ e. not (is_point e.op)) es)
+no_points_in es = all_weaker (λ e. not (is_point e.op) ≡ true) (λ e. is_point e.op ≡ false) (λ e h. not-true (is_point e.op) h) (ranges_of es) (all_pass (λ e. not (is_point e.op)) es)
 
 pub sorted_out : (es points : List Entry) → NumbersRise es → IsTrue (are_points points) → AreSortedOut points (ranges_of es)
 sorted_out es points rise order = record { in_order = order; no_points = no_points_in es; differ = some_differ (λ e. not (is_point e.op)) es (rising_differ es rise) }

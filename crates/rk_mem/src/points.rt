@@ -2,7 +2,7 @@
 ghost use Rattle.std.specs.Prelude.{◌≡◌, length, Some, None, IfOk};
 ghost use Rattle.std.specs.Arc.{arc_value};
 ghost use Rattle.rk_model.specs.Sources.{Seen, in_memory, sound_points};
-ghost use Rattle.rk_model.specs.SourceLaws.{sound_points-sorted, in_memory-turns};
+ghost use Rattle.rk_model.specs.SourceLaws.{sound_points-sorted, in_memory-bounded};
 ghost use Rattle.rk_mem.specs.Chunks.{points_of};
 
 use crate::Chunk;
@@ -56,7 +56,7 @@ impl PointList for ChunkPoints {
 impl<R: Counting> PointSource<R> for ChunkPoints {
     ghost sorted = { λ s. sound_points-sorted s.items };
 
-    ghost turns = { λ s. in_memory-turns (length s.items) (sound_points s.items) s.place };
+    ghost bounded = { λ s. in_memory-bounded (length s.items) (sound_points s.items) s.place };
 
     fn seek_ge(&mut self, _: &mut R, key: &UserKey) -> Result<(), SourceError> {
         self.place = point_ge(self.chunk.points(), key);

@@ -2,7 +2,7 @@
 ghost use Rattle.std.specs.Prelude.{◌≡◌, length, Some, None, IfOk};
 ghost use Rattle.std.specs.Arc.{arc_value};
 ghost use Rattle.rk_model.specs.Sources.{Seen, in_memory, sound_spans};
-ghost use Rattle.rk_model.specs.SourceLaws.{sound_spans-sorted, in_memory-turns};
+ghost use Rattle.rk_model.specs.SourceLaws.{sound_spans-sorted, in_memory-bounded};
 ghost use Rattle.rk_fragment.specs.Fragments.{fragments};
 
 use crate::Chunk;
@@ -53,7 +53,7 @@ impl SpanList for ChunkSpans {
 impl<R: Counting> SpanSource<R> for ChunkSpans {
     ghost sorted = { λ s. sound_spans-sorted s.items };
 
-    ghost turns = { λ s. in_memory-turns (length s.items) (sound_spans s.items) s.place };
+    ghost bounded = { λ s. in_memory-bounded (length s.items) (sound_spans s.items) s.place };
 
     fn seek_ge(&mut self, reader: &mut R, key: &UserKey) -> Result<(), SourceError> {
         self.list.seek_ge(reader, key)

@@ -2,7 +2,7 @@
 use super::*;
 use rk_key::read_key;
 use rk_model::{Entry, Op, PointSource, SpanSource};
-use rk_outside::{Bytes, NoReads};
+use rk_outside::{Bytes, Counting, NoReads};
 use std::alloc::Global;
 use std::sync::Arc;
 use std::test::Fail;
@@ -64,15 +64,70 @@ fn a_chunk_may_be_shared(rt: HostRuntime) -> Result<(), Fail> {
     Ok(())
 }
 
+/// The number of the point here, from which it goes one place on.
+fn pass<R: Counting, S: PointSource<R>>(
+    points: &mut S,
+    reader: &mut R,
+) -> Result<Option<u64>, Fail> {
+    let Some(entry) = points.here() else {
+        return Ok(None);
+    };
+    let seq = entry.seq;
+    points.next(reader)?;
+    Ok(Some(seq))
+}
+
+/// The same one place back.
+fn pass_back<R: Counting, S: PointSource<R>>(
+    points: &mut S,
+    reader: &mut R,
+) -> Result<Option<u64>, Fail> {
+    let Some(entry) = points.here() else {
+        return Ok(None);
+    };
+    let seq = entry.seq;
+    points.prev(reader)?;
+    Ok(Some(seq))
+}
+
 #[test]
 fn points_of_a_chunk(rt: HostRuntime) -> Result<(), Fail> {
     let alloc = rt.alloc();
     let chunk = chunk_of(alloc, put(alloc, b"b", 7)?)?;
     let mut points = ChunkPoints::new(alloc, chunk)?;
     points.seek_ge(&mut NoReads, &read_key(alloc, b"a")?)?;
-    let here = PointSource::<NoReads>::here(&points).map(|entry| entry.seq);
-    assert_eq!(rt; here, Some(7));
+    assert_eq!(rt; pass(&mut points, &mut NoReads)?, Some(7));
+    assert_eq!(rt; pass(&mut points, &mut NoReads)?, None);
+    points.seek_lt(&mut NoReads, &read_key(alloc, b"c")?)?;
+    assert_eq!(rt; pass_back(&mut points, &mut NoReads)?, Some(7));
+    assert_eq!(rt; pass_back(&mut points, &mut NoReads)?, None);
     Ok(())
+}
+
+/// How many range keys are over the span here, from which it goes one place on.
+fn pass_span<R: Counting, S: SpanSource<R>>(
+    spans: &mut S,
+    reader: &mut R,
+) -> Result<Option<usize>, Fail> {
+    let Some(span) = spans.here() else {
+        return Ok(None);
+    };
+    let count = span.keys.as_slice().len();
+    spans.next(reader)?;
+    Ok(Some(count))
+}
+
+/// The same one place back.
+fn pass_span_back<R: Counting, S: SpanSource<R>>(
+    spans: &mut S,
+    reader: &mut R,
+) -> Result<Option<usize>, Fail> {
+    let Some(span) = spans.here() else {
+        return Ok(None);
+    };
+    let count = span.keys.as_slice().len();
+    spans.prev(reader)?;
+    Ok(Some(count))
 }
 
 #[test]
@@ -81,7 +136,10 @@ fn spans_of_a_chunk(rt: HostRuntime) -> Result<(), Fail> {
     let chunk = chunk_of(alloc, delete(alloc, b"a", b"c", 7)?)?;
     let mut spans = ChunkSpans::new(alloc, chunk)?;
     spans.seek_ge(&mut NoReads, &read_key(alloc, b"b")?)?;
-    let here = SpanSource::<NoReads>::here(&spans).map(|span| span.end.bytes().len());
-    assert_eq!(rt; here, Some(1));
+    assert_eq!(rt; pass_span(&mut spans, &mut NoReads)?, Some(1));
+    assert_eq!(rt; pass_span(&mut spans, &mut NoReads)?, None);
+    spans.seek_lt(&mut NoReads, &read_key(alloc, b"b")?)?;
+    assert_eq!(rt; pass_span_back(&mut spans, &mut NoReads)?, Some(1));
+    assert_eq!(rt; pass_span_back(&mut spans, &mut NoReads)?, None);
     Ok(())
 }

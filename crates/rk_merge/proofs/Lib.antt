@@ -1,4 +1,6 @@
+pub mod Several
 pub mod Lists
 pub mod Cuts
 pub mod Unions
 pub mod Merged
+pub mod Sums

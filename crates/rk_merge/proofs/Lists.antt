@@ -1,11 +1,12 @@
 -- Items of lists, and lists that ascend.
-use Rattle.std.proofs.Common.{◌≡◌, ℕ, zero, suc, ◌<◌, length, get_or, Bool, true, false, ◌&&◌, List, [], ◌∷◌, refl, ap, ◌∙◌, inl, inr, arith, Ordering, filter, cond, sym}
+use Rattle.std.proofs.Common.{◌≡◌, ℕ, zero, suc, ◌<◌, length, get_or, Bool, true, false, ◌&&◌, List, [], ◌∷◌, refl, ap, ◌∙◌, inl, inr, arith, Ordering, filter, cond}
 use Rattle.std.specs.List.{list_all}
 use Rattle.std.specs.Ordering.{is_lt}
 use Rattle.std.specs.Cmp.{IsTotalOrder}
 use Rattle.rk_key.proofs.TotalOrders.{lt_trans}
 use Rattle.rk_model.specs.Sources.{ascends}
 use Rattle.rk_merge.specs.Unions.{Among}
+pub use Rattle.rk_model.proofs.Members.{among_filter, filter_among}
 
 pub and_parts : (a b : Bool) → a && b ≡ true → (a ≡ true) × (b ≡ true)
 and_parts true true e = (refl, refl)
@@ -39,25 +40,6 @@ module _ {A : Type 0} {cmp : A → A → Ordering} (o : IsTotalOrder cmp) where
   ascends_cons x (y ∷ ys) up first = and_true (is_lt (cmp x y)) _ (first y (inl refl)) up
 
 -- the items that a test takes
-pub among_filter : {A : Type 0} (t : A → Bool) (xs : List A) (z : A) → Among z xs → t z ≡ true → Among z (filter t xs)
-among_filter t [] z m h = m
-among_filter {A} t (x ∷ xs) z m h = go (t x) refl m (λ n. among_filter t xs z n h)
-  where
-    go : (b : Bool) → t x ≡ b → Among z (x ∷ xs) → (Among z xs → Among z (filter t xs)) → Among z (cond b (x ∷ filter t xs) (filter t xs))
-    go true q (inl e) ih = inl e
-    go true q (inr n) ih = inr (ih n)
-    go false q (inl e) ih = let w : true ≡ false = sym h ∙ ap t e ∙ q in cc
-    go false q (inr n) ih = ih n
-
-pub filter_among : {A : Type 0} (t : A → Bool) (xs : List A) (z : A) → Among z (filter t xs) → Among z xs × (t z ≡ true)
-filter_among t [] z m = absurd m
-filter_among {A} t (x ∷ xs) z m = go (t x) refl m (filter_among t xs z)
-  where
-    go : (b : Bool) → t x ≡ b → Among z (cond b (x ∷ filter t xs) (filter t xs)) → (Among z (filter t xs) → Among z xs × (t z ≡ true)) → Among z (x ∷ xs) × (t z ≡ true)
-    go true q (inl e) ih = (inl e, ap t e ∙ q)
-    go true q (inr n) ih = (inr (ih n).0, (ih n).1)
-    go false q n ih = (inr (ih n).0, (ih n).1)
-
 pub all_filter : {A : Type 0} (p t : A → Bool) (xs : List A) → list_all p xs ≡ true → list_all p (filter t xs) ≡ true
 all_filter p t [] all = refl
 all_filter {A} p t (x ∷ xs) all = go (t x) (all_filter p t xs (and_parts (p x) _ all).1)

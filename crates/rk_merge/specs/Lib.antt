@@ -1,3 +1,4 @@
 pub mod Unions
+pub mod Several
 pub mod Cuts
 pub mod Laws

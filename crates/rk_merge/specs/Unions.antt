@@ -1,5 +1,6 @@
 -- The union of sorted lists.
-use Rattle.std.specs.Prelude.{◌≡◌, Bool, List, [], ◌∷◌, if◌then◌else◌, ◌⊎◌}
+use Rattle.std.specs.Prelude.{Bool, List, [], ◌∷◌, if◌then◌else◌, ◌⊎◌}
+pub use Rattle.rk_model.specs.Lists.{Among}
 
 -- the item behind all that stand before it
 abbrev pub insert_by : {A : Type 0} → (A → A → Bool) → A → List A → List A
@@ -16,11 +17,7 @@ abbrev pub union : {A : Type 0} → (A → A → Bool) → List (List A) → Lis
 union before [] = []
 union before (xs ∷ xss) = merge before xs (union before xss)
 
--- an item is one of the list, or of one of the lists
-abbrev pub Among : {A : Type 0} → A → List A → Type 0
-Among a [] = ⊥
-Among a (x ∷ xs) = (a ≡ x) ⊎ Among a xs
-
+-- an item is one of one of the lists
 abbrev pub AmongAny : {A : Type 0} → A → List (List A) → Type 0
 AmongAny a [] = ⊥
 AmongAny a (xs ∷ xss) = Among a xs ⊎ AmongAny a xss

@@ -9,3 +9,4 @@ pub mod Named
 pub mod Plain
 pub mod Sources
 pub mod SourceLaws
+pub mod Runs

@@ -103,14 +103,15 @@ abbrev pub item_at : {A : Type 0} → List A → Option ℕ → Option A
 item_at xs place = option_and_then (slice_get xs) place
 
 -- What contracts see of a source: the list, where it is told, the place in it, and a count that places are
--- below, told or not. Then the most reads of a seek, of a step over the gap before a place, and of a turn at
--- a place, which is a step against the call before. And the reads of the turn that a step forward, or back,
--- would be now.
+-- below, told or not. Then the most reads of a seek of a key, and of any seek; of a step over the gap before a
+-- place; and of a turn at a place, which is a step against the call before. And the reads of the turn that a
+-- step forward, or back, would be now.
 pub record Seen (A : Type 0) : Type 0 where
   pub held : Option (List A)
   pub place : Option ℕ
   pub count : ℕ
-  pub seek_reads : ℕ
+  pub seek_reads : List ℕ → ℕ
+  pub seek_most : ℕ
   pub step_reads : ℕ → ℕ
   pub turn_reads : ℕ → ℕ
   pub turn_to_next : ℕ
@@ -121,6 +122,7 @@ pub record Same {A : Type 0} (before now : Seen A) : Type 0 where
   pub held_is : now.held ≡ before.held
   pub count_is : now.count ≡ before.count
   pub seek_is : now.seek_reads ≡ before.seek_reads
+  pub most_is : now.seek_most ≡ before.seek_most
   pub step_is : now.step_reads ≡ before.step_reads
   pub turn_is : now.turn_reads ≡ before.turn_reads
 
@@ -147,8 +149,9 @@ pub record IsHere {A : Type 0} (s : Seen A) (item : Option A) : Type 0 where
   pub told : IfSome s.held (λ xs. item ≡ item_at xs s.place)
   pub there : is_some item ≡ is_some s.place
 
--- no turn is dearer than the most of its place
-pub record TurnsAreBounded {A : Type 0} (s : Seen A) : Type 0 where
+-- no turn is dearer than the most of its place, and no seek than the most of any
+pub record ReadsAreBounded {A : Type 0} (s : Seen A) : Type 0 where
+  pub seek : (key : List ℕ) → s.seek_reads key ≤ s.seek_most
   pub next : s.turn_to_next ≤ option_map_or s.turn_reads s.place 0
   pub prev : s.turn_to_prev ≤ option_map_or s.turn_reads s.place 0
 
@@ -158,7 +161,8 @@ in_memory count held place = record {
   held = held;
   place = place;
   count = count;
-  seek_reads = 0;
+  seek_reads = λ key. 0;
+  seek_most = 0;
   step_reads = λ gap. 0;
   turn_reads = λ place. 0;
   turn_to_next = 0;

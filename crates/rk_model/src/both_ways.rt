@@ -1,5 +1,6 @@
 //! What a source of points holds, read from a key on or back from it.
 ghost use Rattle.std.specs.Prelude.{◌≡◌, IfSome, IfOk, take, drop, reverse};
+ghost use Rattle.rk_outside.specs.Causes.{HasSourceCause};
 ghost use Rattle.rk_model.specs.Sources.{Same, points_below};
 
 use crate::{Entry, PointSource};
@@ -11,7 +12,7 @@ use std::alloc::Global;
 ///
 /// # Errors
 ///
-/// Those of the source, and `Memory`.
+/// As [`PointSource::seek_ge`].
 pub fn points_from<R: Counting, S: PointSource<R>>(
     alloc: Global,
     source: &mut S,
@@ -20,6 +21,7 @@ pub fn points_from<R: Counting, S: PointSource<R>>(
 ) -> Result<Vec<Entry>, SourceError>
     ensures points { IfOk result (λ points. IfSome (S.seen source.old).held (λ es. points.items ≡ drop (points_below key.now es) es)) }
     ensures same { Same (S.seen source.old) (S.seen source.new) }
+    ensures cause { HasSourceCause (S.seen source.old).held (R.fault_count reader.old) (R.fault_count reader.new) result }
 {
     let mut points = Vec::new(alloc);
     source.seek_ge(reader, key)?;
@@ -34,7 +36,7 @@ pub fn points_from<R: Counting, S: PointSource<R>>(
 ///
 /// # Errors
 ///
-/// Those of the source, and `Memory`.
+/// As [`PointSource::seek_ge`].
 pub fn points_before<R: Counting, S: PointSource<R>>(
     alloc: Global,
     source: &mut S,
@@ -43,6 +45,7 @@ pub fn points_before<R: Counting, S: PointSource<R>>(
 ) -> Result<Vec<Entry>, SourceError>
     ensures points { IfOk result (λ points. IfSome (S.seen source.old).held (λ es. points.items ≡ reverse (take (points_below key.now es) es))) }
     ensures same { Same (S.seen source.old) (S.seen source.new) }
+    ensures cause { HasSourceCause (S.seen source.old).held (R.fault_count reader.old) (R.fault_count reader.new) result }
 {
     let mut points = Vec::new(alloc);
     source.seek_lt(reader, key)?;

@@ -6,8 +6,12 @@ use rk_key::UserKey;
 use rk_outside::NoMemory;
 use std::alloc::Global;
 
-/// An equal key. A key is refused for want of memory alone.
-pub(crate) fn copy_key(key: &UserKey) -> Result<UserKey, NoMemory>
+/// An equal key.
+///
+/// # Errors
+///
+/// `NoMemory`: a key that stands is refused for nothing else.
+pub fn copy_key(key: &UserKey) -> Result<UserKey, NoMemory>
     ensures { IfOk result (λ k. k ≡ key.now) }
 {
     match key.copy() {

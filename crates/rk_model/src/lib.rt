@@ -22,6 +22,7 @@ mod source;
 mod span;
 
 pub use both_ways::{points_before, points_from};
+pub use copies::copy_key;
 pub use cursor::Cursor;
 pub use list_source::{ListPoints, ListSpans};
 pub use op::{Entry, Op};

@@ -1,7 +1,7 @@
 //! Sources over lists in memory.
 ghost use Rattle.std.specs.Prelude.{◌≡◌, length, None, IfSome, IsTrue};
 ghost use Rattle.rk_model.specs.Sources.{Seen, in_memory, sound_points, sound_spans};
-ghost use Rattle.rk_model.specs.SourceLaws.{sound_points-sorted, sound_spans-sorted, in_memory-turns};
+ghost use Rattle.rk_model.specs.SourceLaws.{sound_points-sorted, sound_spans-sorted, in_memory-bounded};
 
 use crate::places::{before_cut, behind_cut, point_ge, point_lt, span_ge, span_lt};
 use crate::{Entry, PointList, PointSource, Span, SpanList, SpanSource};
@@ -46,7 +46,7 @@ impl PointList for ListPoints {
 impl<R: Counting> PointSource<R> for ListPoints {
     ghost sorted = { λ s. sound_points-sorted s.items };
 
-    ghost turns = { λ s. in_memory-turns (length s.items) (sound_points s.items) s.place };
+    ghost bounded = { λ s. in_memory-bounded (length s.items) (sound_points s.items) s.place };
 
     fn seek_ge(&mut self, _: &mut R, key: &UserKey) -> Result<(), SourceError> {
         self.place = point_ge(&self.entries, key);
@@ -109,7 +109,7 @@ impl SpanList for ListSpans {
 impl<R: Counting> SpanSource<R> for ListSpans {
     ghost sorted = { λ s. sound_spans-sorted s.items };
 
-    ghost turns = { λ s. in_memory-turns (length s.items) (sound_spans s.items) s.place };
+    ghost bounded = { λ s. in_memory-bounded (length s.items) (sound_spans s.items) s.place };
 
     fn seek_ge(&mut self, _: &mut R, key: &UserKey) -> Result<(), SourceError> {
         self.place = span_ge(&self.spans, key);

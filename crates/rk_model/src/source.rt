@@ -2,7 +2,7 @@
 ghost use Rattle.std.specs.Prelude.{◌≡◌, IsTrue, IsSome, IfSome, OnOk};
 ghost use Rattle.std.specs.Option.{option_copied};
 ghost use Rattle.rk_outside.specs.Causes.{HasSourceCause, RaisesAtMost};
-ghost use Rattle.rk_model.specs.Sources.{Seen, Goes, Rises, IsHere, TurnsAreBounded, are_points, are_spans, point_ge, point_lt, span_ge, span_lt, next_place, prev_place, next_reads, prev_reads};
+ghost use Rattle.rk_model.specs.Sources.{Seen, Goes, Rises, IsHere, ReadsAreBounded, are_points, are_spans, point_ge, point_lt, span_ge, span_lt, next_place, prev_place, next_reads, prev_reads};
 ghost use Rattle.rk_model.specs.declared.op.Entry.{Entry};
 ghost use Rattle.rk_model.specs.declared.span.Span.{Span};
 
@@ -30,7 +30,7 @@ pub trait PointSource<R: Counting>: PointList {
         ensures goes { Goes (Self.seen self.old) (Self.seen self.new) (λ xs. point_ge key.now xs) result }
         ensures ahead { OnOk result ((Self.seen self.new).turn_to_next ≡ 0) }
         ensures cause { HasSourceCause (Self.seen self.old).held (R.fault_count reader.old) (R.fault_count reader.new) result }
-        ensures reads { RaisesAtMost (R.read_count reader.old) (R.read_count reader.new) ((Self.seen self.old).seek_reads) };
+        ensures reads { RaisesAtMost (R.read_count reader.old) (R.read_count reader.new) ((Self.seen self.old).seek_reads key.now) };
 
     /// Goes to the last entry whose key is below the key.
     ///
@@ -41,7 +41,7 @@ pub trait PointSource<R: Counting>: PointList {
         ensures goes { Goes (Self.seen self.old) (Self.seen self.new) (λ xs. point_lt key.now xs) result }
         ensures back { OnOk result ((Self.seen self.new).turn_to_prev ≡ 0) }
         ensures cause { HasSourceCause (Self.seen self.old).held (R.fault_count reader.old) (R.fault_count reader.new) result }
-        ensures reads { RaisesAtMost (R.read_count reader.old) (R.read_count reader.new) ((Self.seen self.old).seek_reads) };
+        ensures reads { RaisesAtMost (R.read_count reader.old) (R.read_count reader.new) ((Self.seen self.old).seek_reads key.now) };
 
     /// Goes one place on, and to none from the last.
     ///
@@ -76,8 +76,8 @@ pub trait PointSource<R: Counting>: PointList {
     /// The list is one of points, ascending.
     ghost sorted: { (s : Self) → IfSome (Self.seen s).held (λ xs. IsTrue (are_points xs)) };
 
-    /// No turn is dearer than the most of its place.
-    ghost turns: { (s : Self) → TurnsAreBounded (Self.seen s) };
+    /// No turn is dearer than the most of its place, and no seek than the most of any.
+    ghost bounded: { (s : Self) → ReadsAreBounded (Self.seen s) };
 }
 
 /// What contracts see of a source of spans, whatever reads through it.
@@ -100,7 +100,7 @@ pub trait SpanSource<R: Counting>: SpanList {
         ensures goes { Goes (Self.seen self.old) (Self.seen self.new) (λ xs. span_ge key.now xs) result }
         ensures ahead { OnOk result ((Self.seen self.new).turn_to_next ≡ 0) }
         ensures cause { HasSourceCause (Self.seen self.old).held (R.fault_count reader.old) (R.fault_count reader.new) result }
-        ensures reads { RaisesAtMost (R.read_count reader.old) (R.read_count reader.new) ((Self.seen self.old).seek_reads) };
+        ensures reads { RaisesAtMost (R.read_count reader.old) (R.read_count reader.new) ((Self.seen self.old).seek_reads key.now) };
 
     /// Goes to the last span whose start is below the key.
     ///
@@ -111,7 +111,7 @@ pub trait SpanSource<R: Counting>: SpanList {
         ensures goes { Goes (Self.seen self.old) (Self.seen self.new) (λ xs. span_lt key.now xs) result }
         ensures back { OnOk result ((Self.seen self.new).turn_to_prev ≡ 0) }
         ensures cause { HasSourceCause (Self.seen self.old).held (R.fault_count reader.old) (R.fault_count reader.new) result }
-        ensures reads { RaisesAtMost (R.read_count reader.old) (R.read_count reader.new) ((Self.seen self.old).seek_reads) };
+        ensures reads { RaisesAtMost (R.read_count reader.old) (R.read_count reader.new) ((Self.seen self.old).seek_reads key.now) };
 
     /// Goes one place on, and to none from the last.
     ///
@@ -146,6 +146,6 @@ pub trait SpanSource<R: Counting>: SpanList {
     /// The list is one of spans, ascending.
     ghost sorted: { (s : Self) → IfSome (Self.seen s).held (λ xs. IsTrue (are_spans xs)) };
 
-    /// No turn is dearer than the most of its place.
-    ghost turns: { (s : Self) → TurnsAreBounded (Self.seen s) };
+    /// No turn is dearer than the most of its place, and no seek than the most of any.
+    ghost bounded: { (s : Self) → ReadsAreBounded (Self.seen s) };
 }

@@ -40,7 +40,13 @@ pub record Reading : Type 0 where
   pub left : List ℕ
   pub calls : Calls
 
--- what was written to a sink in memory, and its calls
+-- what was written to a sink in memory, whether all of it was handed on, and its calls
 pub record Writing : Type 0 where
   pub written : List ℕ
+  pub finished : Bool
   pub calls : Calls
+
+-- the same of one that never fails
+pub record Steady : Type 0 where
+  pub written : List ℕ
+  pub finished : Bool

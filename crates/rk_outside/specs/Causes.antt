@@ -13,11 +13,11 @@ pub record HasCause {T E : Type 0} (before now : ℕ) (result : Result T E) : Ty
   pub failed : OnErr result (Rose before now)
   pub kept : OnOk result (now ≡ before)
 
--- the same where this one error alone comes of a fault
+-- the same where this one error alone comes of a fault: after another no fault is passed over either
 pub record HasCauseOf {T E : Type 0} (error : E) (before now : ℕ) (result : Result T E) : Type 0 where
   pub later : before ≤ now
   pub failed : IsErrOf result error → Rose before now
-  pub kept : OnOk result (now ≡ before)
+  pub kept : (IsErrOf result error → ⊥) → now ≡ before
 
 -- a count of reads that never falls rose by no more than this
 pub record RaisesAtMost (before now most : ℕ) : Type 0 where

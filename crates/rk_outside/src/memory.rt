@@ -1,5 +1,5 @@
 // Sources and sinks in memory: some fail at listed calls, and the steady ones never fail.
-ghost use Rattle.std.specs.Prelude.{◌≡◌, ◌↔◌, ◌++◌, [], length, min, Some, IsOk, IsErr, IfOk, OnOk, OnErr, IsErrOf, is_err};
+ghost use Rattle.std.specs.Prelude.{◌≡◌, ◌↔◌, ◌++◌, [], length, min, Some, IsOk, IsErr, IfOk, OnOk, OnErr, IsErrOf, is_err, IsTrue, IsFalse, false};
 ghost use Rattle.std.specs.Io.{ReadsAtMost, WritesAtMost};
 ghost use Rattle.std.specs.Io.KnownBytes.{ReadConsumes, Keeps};
 ghost use Rattle.rk_outside.specs.Calls.{IsNextListed, no_calls, after_call, is_failed};
@@ -111,6 +111,7 @@ impl Source for SteadySource<'_> {
 #[derive(Debug, Drop)]
 pub struct VecSink<'a> {
     written: Vec<u8>,
+    finished: bool,
     schedule: Schedule<'a>,
 }
 
@@ -119,16 +120,17 @@ impl<'a> Model for VecSink<'a> {
 
     ghost Value = { Writing };
 
-    ghost view = { λ s. record { written = s.written.items; calls = s.schedule } };
+    ghost view = { λ s. record { written = s.written.items; finished = s.finished; calls = s.schedule } };
 }
 
 impl<'a> VecSink<'a> {
     /// An empty sink that fails at these calls. It takes no memory.
     pub fn new(alloc: Global, fail: &'a [u64]) -> VecSink<'a>
-        ensures { result ≡ record { written = []; calls = no_calls fail.now } }
+        ensures { result ≡ record { written = []; finished = false; calls = no_calls fail.now } }
     {
         VecSink {
             written: Vec::new(alloc),
+            finished: false,
             schedule: Schedule::new(fail),
         }
     }
@@ -144,6 +146,8 @@ impl<'a> VecSink<'a> {
 impl Sink for VecSink<'_> {
     ghost written = { λ s. Some s.written };
 
+    ghost finished = { λ s. Some s.finished };
+
     ghost fault_count = { λ s. s.calls.faults };
 
     fn write(&mut self, bytes: &[u8]) -> Result<usize, SinkError>
@@ -157,7 +161,8 @@ impl Sink for VecSink<'_> {
         ensures cause { HasCauseOf SinkError.Failed self.old.calls.faults self.new.calls.faults result }
         ensures whole { IfOk result (λ n. n ≡ length bytes.now) }
         ensures added { OnOk result (self.new.written ≡ self.old.written ++ bytes.now) }
-        ensures kept { OnErr result (self.new.written ≡ self.old.written) }
+        ensures open { OnOk result (IsFalse self.new.finished) }
+        ensures kept { OnErr result ((self.new.written ≡ self.old.written) × (self.new.finished ≡ self.old.finished)) }
         ensures listed { IsErrOf result SinkError.Failed ↔ IsNextListed self.old.calls }
         ensures counted { self.new.calls ≡ after_call (is_failed result) self.old.calls }
     {
@@ -165,11 +170,13 @@ impl Sink for VecSink<'_> {
             return Err(SinkError::Failed);
         }
         self.written.extend_from_slice(bytes)?;
+        self.finished = false;
         Ok(bytes.len())
     }
 
     fn finish(&mut self) -> Result<(), Failed>
         ensures kept { Keeps (Some self.old.written) (Some self.new.written) }
+        ensures finished { OnOk result (IsTrue self.new.finished) }
         ensures cause { HasCause self.old.calls.faults self.new.calls.faults result }
         ensures listed { IsErr result ↔ IsNextListed self.old.calls }
         ensures counted { self.new.calls ≡ after_call (is_err result) self.old.calls }
@@ -177,6 +184,7 @@ impl Sink for VecSink<'_> {
         if self.schedule.next_fails() {
             Err(Failed)
         } else {
+            self.finished = true;
             Ok(())
         }
     }
@@ -191,62 +199,70 @@ impl Sink for VecSink<'_> {
 #[derive(Debug, Drop)]
 pub struct SteadySink {
     bytes: Vec<u8>,
+    finished: bool,
 }
 
 impl Model for SteadySink {
-    ghost use Rattle.std.specs.Prelude.{List, ℕ};
+    ghost use Rattle.rk_outside.specs.Calls.{Steady};
 
-    ghost Value = { List ℕ };
+    ghost Value = { Steady };
 
-    ghost view = { λ s. s.bytes.items };
+    ghost view = { λ s. record { written = s.bytes.items; finished = s.finished } };
 }
 
 impl SteadySink {
     /// An empty sink. It takes no memory.
     pub fn new(alloc: Global) -> SteadySink
-        ensures { result ≡ [] }
+        ensures { result ≡ record { written = []; finished = false } }
     {
         SteadySink {
             bytes: Vec::new(alloc),
+            finished: false,
         }
     }
 
     /// Lends what was written.
     pub fn bytes(&self) -> &[u8]
-        ensures { result.now ≡ self.now }
+        ensures { result.now ≡ self.now.written }
     {
         &self.bytes
     }
 }
 
 impl Sink for SteadySink {
-    ghost written = { λ s. Some s };
+    ghost written = { λ s. Some s.written };
+
+    ghost finished = { λ s. Some s.finished };
 
     ghost fault_count = { λ _. 0 };
 
     fn write(&mut self, bytes: &[u8]) -> Result<usize, SinkError>
         ensures taken { WritesAtMost result bytes.now }
         ensures some { TakesSome result bytes.now }
-        ensures ok { AddsTaken (Some self.old) (Some self.new) result bytes.now }
-        ensures memory { IsErrOf result SinkError.Memory → Keeps (Some self.old) (Some self.new) }
+        ensures ok { AddsTaken (Some self.old.written) (Some self.new.written) result bytes.now }
+        ensures memory { IsErrOf result SinkError.Memory →
+            Keeps (Some self.old.written) (Some self.new.written) }
         ensures failed { IsErrOf result SinkError.Failed →
-            AppendsPrefix (Some self.old) (Some self.new) bytes.now }
+            AppendsPrefix (Some self.old.written) (Some self.new.written) bytes.now }
         ensures cause { HasCauseOf SinkError.Failed 0 0 result }
         ensures whole { IfOk result (λ n. n ≡ length bytes.now) }
-        ensures added { OnOk result (self.new ≡ self.old ++ bytes.now) }
+        ensures added { OnOk result (self.new.written ≡ self.old.written ++ bytes.now) }
+        ensures open { OnOk result (IsFalse self.new.finished) }
         ensures kept { OnErr result (self.new ≡ self.old) }
         ensures never_failed { IsErrOf result SinkError.Failed → ⊥ }
     {
         self.bytes.extend_from_slice(bytes)?;
+        self.finished = false;
         Ok(bytes.len())
     }
 
     fn finish(&mut self) -> Result<(), Failed>
-        ensures kept { Keeps (Some self.old) (Some self.new) }
+        ensures kept { Keeps (Some self.old.written) (Some self.new.written) }
+        ensures finished { OnOk result (IsTrue self.new.finished) }
         ensures cause { HasCause 0 0 result }
-        ensures unchanged { self.new ≡ self.old }
         ensures never_failed { IsOk result }
     {
+        self.finished = true;
         Ok(())
     }
 

@@ -1,5 +1,5 @@
 // What can be written piece by piece.
-ghost use Rattle.std.specs.Prelude.{◌≡◌, List, ℕ, Option, IsErrOf};
+ghost use Rattle.std.specs.Prelude.{◌≡◌, List, ℕ, Bool, Option, None, IsTrue, IsFalse, IfSome, OnOk, IsErrOf};
 ghost use Rattle.std.specs.Io.{WritesAtMost};
 ghost use Rattle.std.specs.Io.KnownBytes.{Keeps};
 ghost use Rattle.rk_outside.specs.Causes.{HasCause, HasCauseOf};
@@ -14,6 +14,9 @@ pub trait Sink {
     /// What was written, where it is told.
     ghost written: { Self → Option (List ℕ) };
 
+    /// Whether all that was written has been handed on, where it is told.
+    ghost finished: { Self → Option Bool };
+
     /// How often a call has failed.
     ghost fault_count: { Self → ℕ };
 
@@ -26,11 +29,13 @@ pub trait Sink {
         ensures memory { IsErrOf result SinkError.Memory → Keeps (written self.old) (written self.new) }
         ensures failed { IsErrOf result SinkError.Failed →
             AppendsPrefix (written self.old) (written self.new) bytes.now }
+        ensures open { OnOk result (IfSome (finished self.new) IsFalse) }
         ensures cause { HasCauseOf SinkError.Failed (fault_count self.old) (fault_count self.new) result };
 
     /// Hands on what was written so far. Whatever it answers, it adds nothing.
     fn finish(&mut self) -> Result<(), Failed>
         ensures kept { Keeps (written self.old) (written self.new) }
+        ensures finished { OnOk result (IfSome (finished self.new) IsTrue) }
         ensures cause { HasCause (fault_count self.old) (fault_count self.new) result };
 
     /// How often a call has failed. At its greatest value the count stays.
@@ -67,6 +72,8 @@ impl<W: Write> WriteSink<W> {
 
 impl<W: Write> Sink for WriteSink<W> {
     ghost written = { λ s. W.contents s.inner };
+
+    ghost finished = { λ _. None };
 
     ghost fault_count = { λ s. s.faults };
 

@@ -1,18 +1,22 @@
 -- The way ahead to the first visible entry.
-use Rattle.std.proofs.Common.{◌≡◌, ℕ, ◌<◌, ◌≤◌, length, Bool, true, false, not, List, Option, Some, None, is_some, IfSome, IsTrue, refl, ap, sym, subst, ◌∙◌, ◌⊎◌, inl, inr, arith}
+use Rattle.std.proofs.Common.{◌≡◌, ℕ, suc, ◌+◌, ◌<◌, ◌≤◌, length, unwrap_or, Bool, true, false, not, List, Option, Some, None, is_some, IfSome, IsTrue, refl, ap, sym, subst, ◌∙◌, ◌⊎◌, inl, inr, arith, add-one}
+use Rattle.std.proofs.lemmas.Bool.{not-true, not-false}
+use Rattle.std.specs.Option.{option_map_or}
 use Rattle.std.specs.Ordering.{is_lt, is_eq}
 use Rattle.rk_key.specs.Keys.{key_cmp}
 use Rattle.rk_key.proofs.TotalOrders.{lt_itself, lt_back}
-use Rattle.rk_merge.proofs.Lists.{and_parts}
 use Rattle.rk_pointmerge.specs.Moves.{Steps}
-use Rattle.rk_model.specs.Sources.{Seen, are_points, ascends, entry_cmp, count_before, item_at, op_key, next_place}
+use Rattle.rk_model.specs.Sources.{Seen, are_points, ascends, entry_cmp, count_before, item_at, op_key, next_place, next_reads}
 use Rattle.rk_model.specs.declared.op.Entry.{Entry}
 use Rattle.rk_merge.specs.Unions.{Among}
 use Rattle.rk_merge.specs.Cuts.{place_near, near_cut, cut_past}
-use Rattle.rk_merge.proofs.Cuts.{near_item, near_is, seen_cut, seen_step, seen_past, seen_still, falls_at, cut_within}
+use Rattle.rk_merge.proofs.Cuts.{near_item, near_is, seen_cut, seen_step, seen_past, seen_still, falls_at, cut_within, slice_rank}
 use Rattle.rk_pointmerge.specs.Merges.{comes_before}
-use Rattle.rk_pointmerge.specs.Views.{is_visible, is_kept, Passes, Falls, Lands, StartsAhead, FindsAhead}
+use Rattle.rk_pointmerge.specs.Views.{is_visible, is_kept, Passes, Falls, Lands, StartsAhead, FindsAhead, ReadsAhead}
+use Rattle.rk_merge.specs.Several.{sum_to}
 use Rattle.rk_pointmerge.proofs.Bests.{entry_total}
+use Rattle.rk_pointmerge.proofs.Gaps.{Up, of_both, upward, with_both, behind_here, rank_behind, past_near}
+use Rattle.rk_merge.proofs.Sums.{sum_to-more}
 use Rattle.rk_pointmerge.proofs.Keys.{full_all}
 use Rattle.rk_pointmerge.proofs.Sights.{key_sym, key_trans, before_newer, newer_before, squeeze, hidden_new, hidden_del, hidden_by, shown_newest}
 use Rattle.rk_pointmerge.proofs.Turns.{none_behind}
@@ -54,10 +58,6 @@ module _ (n : ℕ) (es : List Entry) (up : ascends (λ a b. is_lt (entry_cmp a b
       grows : (y : Entry) → Among y es → u y ≡ true → cut_past true comes_before e y ≡ true
       grows y m h = ap not (lt_back entry_total y e (sym (cut y m) ∙ h))
 
-      not_true : (b : Bool) → not b ≡ true → b ≡ false
-      not_true true w = cc
-      not_true false w = refl
-
       past : (y : Entry) → Among y es → u y ≡ false → cut_past true comes_before e y ≡ true → y ≡ e
       past y m p q = seen_past entry_total true u is.falls es up e near y m (ap not p) (ap not q)
 
@@ -87,14 +87,10 @@ module _ (n : ℕ) (es : List Entry) (up : ascends (λ a b. is_lt (entry_cmp a b
       kept (inr w) = rw w.0 (e, among, ap not (lt_itself entry_total e), refl, w.2)
 
       no_g : (g : Entry) → Among g es → cut_past true comes_before e g ≡ false → u g ≡ false
-      no_g g k q = not_true (u g) (seen_still entry_total true u is.falls es up e near g k (ap not q))
+      no_g g k q = not-true (u g) (seen_still entry_total true u is.falls es up e near g k (ap not q))
 
       behind : (g : Entry) → cut_past true comes_before e g ≡ false → comes_before e g ≡ true
-      behind g q = not_false (comes_before e g) q
-        where
-          not_false : (b : Bool) → not b ≡ false → b ≡ true
-          not_false true w = refl
-          not_false false w = cc
+      behind g q = not-false (comes_before e g) q
 
       split : (f g : Entry) → Among f es → Among g es → cut_past true comes_before e f ≡ true → cut_past true comes_before e g ≡ false → f.seq ≤ n → is_eq (key_cmp (op_key f.op) (op_key g.op)) ≡ true
           → (b : Bool) → u f ≡ b → Passes n e key key' true → is_kept key' (op_key g.op) ≡ true
@@ -118,10 +114,6 @@ module _ (n : ℕ) (es : List Entry) (up : ascends (λ a b. is_lt (entry_cmp a b
       let seen = near_is true u es e near in
       (e, here, seen.1, shown near seen.1, beyond seen.0, λ y m out vis. nearest near y m out vis (u y) refl)
     where
-      not_true : (b : Bool) → not b ≡ true → b ≡ false
-      not_true true w = cc
-      not_true false w = refl
-
       beyond : not (u e) ≡ true → not (t e) ≡ true
       beyond out = go (t e) refl
         where
@@ -130,7 +122,7 @@ module _ (n : ℕ) (es : List Entry) (up : ascends (λ a b. is_lt (entry_cmp a b
           go true p = let w = is.grows e (near_is true u es e (ahead_near u (Some i) key e is here)).1 p in cc
 
       nearest : near_cut true u es ≡ Some e → (y : Entry) → Among y es → not (t y) ≡ true → is_visible n es y ≡ true → (b : Bool) → u y ≡ b → comes_before y e ≡ false
-      nearest near y m out vis true p = let w = is.hidden y m (not_true (t y) out) p in cc
+      nearest near y m out vis true p = let w = is.hidden y m (not-true (t y) out) p in cc
       nearest near y m out vis false p = sym (seen_cut entry_total true u is.falls es up e near y m) ∙ p
 
       shown : near_cut true u es ≡ Some e → Among e es → is_visible n es e ≡ true
@@ -139,71 +131,84 @@ module _ (n : ℕ) (es : List Entry) (up : ascends (λ a b. is_lt (entry_cmp a b
           none : (f : Entry) → Among f es → is_eq (key_cmp (op_key f.op) (op_key e.op)) ≡ true → f.seq ≤ n → e.seq < f.seq → ⊥
           none f m same old newer =
               let before = seen_cut entry_total true u is.falls es up e near f m ∙ newer_before f e same newer in
-              let kept = is.starts.split f e m among before (not_true (u e) (near_is true u es e near).0) old same in
+              let kept = is.starts.split f e m among before (not-true (u e) (near_is true u es e near).0) old same in
               let other = passes.1 in
               let w : true ≡ false = sym kept ∙ other in
               cc
 
   pub ahead_none : (u : Entry → Bool) (place : Option ℕ) (key : Option (List ℕ)) → IsAhead n es t u place key → is_some place ≡ false → Lands true n es t place
   ahead_none u (Some i) key is none = cc
-  ahead_none u None key is none = λ y m out. is.hidden y m (not_true (t y) out) (full_all u es full y m)
+  ahead_none u None key is none = λ y m out. is.hidden y m (not-true (t y) out) (full_all u es full y m)
     where
-      not_true : (b : Bool) → not b ≡ true → b ≡ false
-      not_true true w = cc
-      not_true false w = refl
-
       full : count_before u es ≡ length es
       full =
           let far = none_behind (count_before u es) (length es) (ap is_some (sym is.at)) in
           let most = cut_within u es in
           omega arith
 
--- the same of what is seen of a source
-pub record Told (b s : Seen Entry) (n : ℕ) (key key' : Option (List ℕ)) : Type 0 where
-  pub told : IfSome b.held (λ es. (t : Entry → Bool) → Falls t → b.place ≡ place_near true (count_before t es) (length es) → StartsAhead n es t key → (u : Entry → Bool) × IsAhead n es t u s.place key')
-
-module _ (b s : Seen Entry) (n : ℕ) (key key' : Option (List ℕ)) (sorted : IfSome b.held (λ xs. IsTrue (are_points xs))) (held : s.held ≡ b.held) (walk : Told b s n key key') where
-  pub told_stop : (key'' : Option (List ℕ)) (e : Entry) (item : Option Entry) → IfSome s.held (λ xs. item ≡ item_at xs s.place) → item ≡ Some e → Passes n e key' key'' false → FindsAhead n key b s
-  told_stop key'' e item here is passes = go b.held s.held held sorted here walk.told
+  -- the walk has not come past where it leads
+  pub ahead_limit : (u : Entry → Bool) (place to : Option ℕ) (key : Option (List ℕ)) → IsAhead n es t u place key → Lands true n es t to → count_before u es ≤ unwrap_or to (length es)
+  ahead_limit u place None key is lands = cut_within u es
+  ahead_limit u place (Some i) key is lands = go (u lands.0) refl
     where
-      go : (h h' : Option (List Entry)) → h' ≡ h → IfSome h (λ xs. IsTrue (are_points xs)) → IfSome h' (λ xs. item ≡ item_at xs s.place)
-          → IfSome h (λ es. (t : Entry → Bool) → Falls t → b.place ≡ place_near true (count_before t es) (length es) → StartsAhead n es t key → (u : Entry → Bool) × IsAhead n es t u s.place key')
-          → IfSome h (λ es. (t : Entry → Bool) → Falls t → b.place ≡ place_near true (count_before t es) (length es) → StartsAhead n es t key → Lands true n es t s.place)
-      go None h' q up here told = tt
-      go (Some es) None q up here told = cc
-      go (Some es) (Some es') q up here told = λ t falls at starts.
-          let same : es' ≡ es = cc in
-          let was = told t falls at starts in
-          ahead_stop n es (and_parts _ _ up).1 t was.0 s.place key' key'' e was.1 (ap (λ xs. item_at xs s.place) (sym same) ∙ sym here ∙ is) passes
+      go : (b : Bool) → u lands.0 ≡ b → count_before u es ≤ i
+      go true h =
+          let out : t lands.0 ≡ false = not-true (t lands.0) lands.4 in
+          let w : true ≡ false = sym lands.3 ∙ is.hidden lands.0 lands.2 out h in
+          cc
+      go false h =
+          let most = rank_behind es u is.falls lands.0 h in
+          let at = (slice_rank entry_total es up i lands.0 lands.1).1 in
+          omega arith
+
+-- the same of what is seen of a source, with what was read
+pub record Told (b : Seen Entry) (n : ℕ) (place : List Entry → Option ℕ) (key key' : Option (List ℕ)) (r r' : ℕ) : Type 0 where
+  pub told : IfSome b.held (λ es. (t : Entry → Bool) → Falls t → b.place ≡ place_near true (count_before t es) (length es) → StartsAhead n es t key
+      → (u : Entry → Bool) × IsAhead n es t u (place es) key' × (r' + sum_to b.step_reads (count_before t es) ≤ r + sum_to b.step_reads (count_before u es)))
+
+module _ (b s : Seen Entry) (n : ℕ) (key key' : Option (List ℕ)) (r r' : ℕ) (sorted : IfSome b.held (λ xs. IsTrue (are_points xs))) (held : s.held ≡ b.held) (walk : Told b n (λ es. s.place) key key' r r') where
+  pub told_stop : (key'' : Option (List ℕ)) (e : Entry) (item : Option Entry) → IfSome s.held (λ xs. item ≡ item_at xs s.place) → item ≡ Some e → Passes n e key' key'' false → FindsAhead n key b s
+  told_stop key'' e item here is passes = of_both b.held s.held _ _ _ held (with_both b.held Up _ (upward b.held sorted) walk.told) here (λ es p q t falls at starts.
+      let was = p.1 t falls at starts in
+      ahead_stop n es p.0 t was.0 s.place key' key'' e was.1 (sym q ∙ is) passes)
 
   pub told_none : is_some s.place ≡ false → FindsAhead n key b s
-  told_none none = go b.held sorted walk.told
-    where
-      go : (h : Option (List Entry)) → IfSome h (λ xs. IsTrue (are_points xs))
-          → IfSome h (λ es. (t : Entry → Bool) → Falls t → b.place ≡ place_near true (count_before t es) (length es) → StartsAhead n es t key → (u : Entry → Bool) × IsAhead n es t u s.place key')
-          → IfSome h (λ es. (t : Entry → Bool) → Falls t → b.place ≡ place_near true (count_before t es) (length es) → StartsAhead n es t key → Lands true n es t s.place)
-      go None up told = tt
-      go (Some es) up told = λ t falls at starts. let was = told t falls at starts in ahead_none n es (and_parts _ _ up).1 t was.0 s.place key' was.1 none
+  told_none none = of_both b.held b.held Up _ _ refl (upward b.held sorted) walk.told (λ es up p t falls at starts. let was = p t falls at starts in ahead_none n es up t was.0 s.place key' was.1 none)
 
-  pub told_pass : (t : Seen Entry) (key'' : Option (List ℕ)) (e : Entry) (item : Option Entry) → IfSome s.held (λ xs. item ≡ item_at xs s.place) → item ≡ Some e → Passes n e key' key'' true → Steps true s t → Told b t n key key''
-  told_pass t key'' e item here is passes steps = record { told = go b.held s.held held sorted here walk.told steps.told }
+  -- past an entry, also where the step is refused
+  pub told_over : (key'' : Option (List ℕ)) (e : Entry) (item : Option Entry) (r'' : ℕ) → IfSome s.held (λ xs. item ≡ item_at xs s.place) → item ≡ Some e → Passes n e key' key'' true → s.step_reads ≡ b.step_reads → s.turn_to_next ≡ 0 → r'' ≤ r' + next_reads s
+      → Told b n (λ es. next_place es s.place) key key'' r r''
+  told_over key'' e item r'' here is passes steps straight reads = record {
+    told = of_both b.held s.held _ _ _ held (with_both b.held Up _ (upward b.held sorted) walk.told) here (λ es p q t falls at starts.
+        let up = p.0 in
+        let was = p.1 t falls at starts in
+        let found = sym q ∙ is in
+        (cut_past true comes_before e, ahead_pass n es up t was.0 s.place key' key'' e was.1 found passes, spent es up t was.0 was.1 found was.2));
+  }
     where
-      go : (h h' : Option (List Entry)) → h' ≡ h → IfSome h (λ xs. IsTrue (are_points xs)) → IfSome h' (λ xs. item ≡ item_at xs s.place)
-          → IfSome h (λ es. (t : Entry → Bool) → Falls t → b.place ≡ place_near true (count_before t es) (length es) → StartsAhead n es t key → (u : Entry → Bool) × IsAhead n es t u s.place key')
-          → IfSome h' (λ es. t.place ≡ next_place es s.place)
-          → IfSome h (λ es. (v : Entry → Bool) → Falls v → b.place ≡ place_near true (count_before v es) (length es) → StartsAhead n es v key → (u : Entry → Bool) × IsAhead n es v u t.place key'')
-      go None h' q up here told step = tt
-      go (Some es) None q up here told step = cc
-      go (Some es) (Some es') q up here told step = λ v falls at starts.
-          let same : es' ≡ es = cc in
-          let was = told v falls at starts in
-          let on = ahead_pass n es (and_parts _ _ up).1 v was.0 s.place key' key'' e was.1 (ap (λ xs. item_at xs s.place) (sym same) ∙ sym here ∙ is) passes in
-          let place = step ∙ ap (λ xs. next_place xs s.place) same in
-          (cut_past true comes_before e, subst (λ (p : Option ℕ). IsAhead n es v (cut_past true comes_before e) p key'') (sym place) on)
+      spent : (es : List Entry) → ascends (λ a b. is_lt (entry_cmp a b)) es ≡ true → (t u : Entry → Bool) → IsAhead n es t u s.place key' → item_at es s.place ≡ Some e → r' + sum_to b.step_reads (count_before t es) ≤ r + sum_to b.step_reads (count_before u es)
+          → r'' + sum_to b.step_reads (count_before t es) ≤ r + sum_to b.step_reads (count_before (cut_past true comes_before e) es)
+      spent es up t u is found so-far =
+          let past = past_near es u is.falls e up (sym (near_item true u es) ∙ ap (item_at es) (sym is.at) ∙ found) in
+          let here = is.at ∙ behind_here es (count_before u es) e (ap (item_at es) (sym is.at) ∙ found) in
+          let gap : option_map_or (λ i. s.step_reads (i + 1)) s.place 0 ≡ b.step_reads (suc (count_before u es)) =
+          ap (λ o. option_map_or (λ i. s.step_reads (i + 1)) o 0) here ∙ rw add-one (ap (λ f. f (suc (count_before u es))) steps) in
+          let all : r'' + sum_to b.step_reads (count_before t es) ≤ r + sum_to b.step_reads (suc (count_before u es)) = omega arith in
+          rw past all
 
-pub told_start : (b : Seen Entry) (n : ℕ) (key : Option (List ℕ)) → IfSome b.held (λ xs. IsTrue (are_points xs)) → Told b b n key key
-told_start b n key sorted = record { told = go b.held sorted }
-  where
-    go : (h : Option (List Entry)) → IfSome h (λ xs. IsTrue (are_points xs)) → IfSome h (λ es. (t : Entry → Bool) → Falls t → b.place ≡ place_near true (count_before t es) (length es) → StartsAhead n es t key → (u : Entry → Bool) × IsAhead n es t u b.place key)
-    go None up = tt
-    go (Some es) up = λ t falls at starts. (t, ahead_start n es (and_parts _ _ up).1 t b.place key falls at starts)
+pub told_step : (b s t : Seen Entry) (n : ℕ) (key key' : Option (List ℕ)) (r r' : ℕ) → s.held ≡ b.held → Told b n (λ es. next_place es s.place) key key' r r' → Steps true s t → Told b n (λ es. t.place) key key' r r'
+told_step b s t n key key' r r' held was steps = record {
+  told = of_both b.held s.held _ _ _ held was.told steps.told (λ es p q v falls at starts. let on = p v falls at starts in (on.0, subst (λ (o : Option ℕ). IsAhead n es v on.0 o key') (sym q) on.1, on.2));
+}
+
+pub told_start : (b : Seen Entry) (n : ℕ) (key : Option (List ℕ)) (r : ℕ) → IfSome b.held (λ xs. IsTrue (are_points xs)) → Told b n (λ es. b.place) key key r r
+told_start b n key r sorted = record { told = of_both b.held b.held Up (λ xs. IsTrue (are_points xs)) _ refl (upward b.held sorted) sorted (λ es up p t falls at starts. (t, ahead_start n es up t b.place key falls at starts, omega arith)) }
+
+-- what was read is at most the gaps up to where the walk leads
+pub told_way : (b : Seen Entry) (n : ℕ) (place : List Entry → Option ℕ) (key key' : Option (List ℕ)) (r r' : ℕ) → IfSome b.held (λ xs. IsTrue (are_points xs)) → Told b n place key key' r r' → ReadsAhead n key b r r'
+told_way b n place key key' r r' sorted was = of_both b.held b.held Up _ _ refl (upward b.held sorted) was.told (λ es up p t falls at starts to lands.
+    let on = p t falls at starts in
+    let limit : count_before on.0 es ≤ unwrap_or to (length es) = ahead_limit n es up t on.0 (place es) to key' on.1 lands in
+    let more : sum_to b.step_reads (count_before on.0 es) ≤ sum_to b.step_reads (unwrap_or to (length es)) = sum_to-more b.step_reads (count_before on.0 es) (unwrap_or to (length es)) limit in
+    let so-far = on.2 in
+    omega arith)

@@ -8,17 +8,21 @@ use Rattle.rk_outside.specs.declared.error.SourceError.{SourceError}
 use Rattle.rk_model.specs.Sources.{Seen, Same, Goes, Rises, IsHere, are_points, count_before, before_cut, behind_cut, op_key, points_below, item_at}
 use Rattle.rk_model.specs.declared.op.Entry.{Entry}
 use Rattle.rk_merge.specs.Cuts.{place_near, cut_at, cut_past, is_nearer, step_place}
-use Rattle.rk_merge.proofs.Cuts.{step_rank, rank_within, rank_item, behind_some, falls_at, Falls, lt_or_le, behind_none, before_suc}
-use Rattle.rk_pointmerge.specs.Merges.{Merging, merging_seen, united, comes_before, shown, rank, total, reach, come, merged, merged_place, merged_count, merged_steps, place_of, next_reads_from, prev_reads_from, step_most, turn_most}
-use Rattle.rk_pointmerge.specs.Moves.{all_rest, StandsNear, IsStraight, IsWithin, Stands, Left, IsNearest, Arrives, Placed, MovesOn}
+use Rattle.rk_merge.proofs.Cuts.{step_rank, rank_within, behind_some, falls_at, Falls, lt_or_le, behind_none, before_suc}
+use Rattle.rk_merge.specs.Several.{total}
+use Rattle.rk_pointmerge.specs.Merges.{Merging, merging_seen, united, comes_before, shown, rank, reach, come, merged, merged_place, merged_count, merged_steps, place_of, next_reads_from, prev_reads_from, step_most, turn_most, turn_from, merged_turn}
+use Rattle.rk_model.specs.Runs.{IsWithin}
+use Rattle.rk_merge.specs.Several.{all_rest}
+use Rattle.rk_pointmerge.specs.Moves.{StandsNear, IsStraight, Stands, Left, IsNearest, Arrives, Placed, MovesOn}
 use Rattle.rk_pointmerge.proofs.Bests.{entry_total}
 use Rattle.rk_pointmerge.proofs.Unites.{united_is, shown_some}
 use Rattle.rk_pointmerge.proofs.Walks.{reach_within}
 use Rattle.rk_pointmerge.proofs.Keys.{falls_below}
 use Rattle.rk_pointmerge.proofs.Turns.{straight}
 use Rattle.rk_pointmerge.proofs.Settles.{settle_at, settle_none}
-use Rattle.rk_pointmerge.proofs.Leaves.{total_le, total_at, slice_at, stands_shows, placed_reach, among_united, total_lt, told_at, rest_items, merged_some}
-use Rattle.rk_pointmerge.proofs.Alls.{rest_united, rest_total, rest_at, rest_length, pick}
+use Rattle.rk_pointmerge.proofs.Leaves.{total_le, total_at, slice_at, stands_shows, stands_held, placed_reach, total_lt, told_at, rest_items, merged_some}
+use Rattle.rk_merge.proofs.Several.{rest_total, rest_at, rest_length, pick}
+use Rattle.rk_pointmerge.proofs.Alls.{rest_united}
 
 module _ {S : Type 0} (seen : S → Seen Entry) where
   -- what no call changes of the merge
@@ -31,6 +35,14 @@ module _ {S : Type 0} (seen : S → Seen Entry) where
       ap (λ f. option_map_or f (item_at es (before_cut gap)) 0 + option_map_or (λ x. total (λ s. prev_reads_from x (seen s)) xs) (slice_get es gap) 0) next
       ∙ ap (λ f. option_map_or (λ x. total (λ s. next_reads_from x (seen s)) ys) (item_at es (before_cut gap)) 0 + option_map_or f (slice_get es gap) 0) prev)
 
+  turn_rest : (ahead : Bool) (xs ys : List S) → all_rest seen xs ≡ all_rest seen ys → (u : Option (List Entry)) (place : ℕ) → merged_turn ahead seen u xs place ≡ merged_turn ahead seen u ys place
+  turn_rest ahead xs ys e None place = rest_total seen turn_most (λ x. refl) xs ys e
+  turn_rest ahead xs ys e (Some es) place = go (slice_get es place)
+    where
+      go : (p : Option Entry) → option_map_or (λ x. total (λ s. turn_from ahead x (seen s)) xs) p 0 ≡ option_map_or (λ x. total (λ s. turn_from ahead x (seen s)) ys) p 0
+      go None = refl
+      go (Some x) = rest_total seen (turn_from ahead x) (λ s. refl) xs ys e
+
   count_rest : (xs ys : List S) → all_rest seen xs ≡ all_rest seen ys → (u : Option (List Entry)) → merged_count seen u xs ≡ merged_count seen u ys
   count_rest xs ys e None = rest_total seen (λ s. s.count) (λ x. refl) xs ys e
   count_rest xs ys e (Some es) = refl
@@ -41,9 +53,12 @@ module _ {S : Type 0} (seen : S → Seen Entry) where
       record {
         held_is = u;
         count_is = ap (λ h. merged_count seen h news) u ∙ count_rest news olds e (united seen olds);
-        seek_is = rest_total seen (λ s. s.seek_reads) (λ x. refl) news olds e;
+        seek_is = fun_ext (λ (key : List ℕ). rest_total seen (λ s. s.seek_reads key) (λ x. refl) news olds e);
+        most_is = rest_total seen (λ s. s.seek_most) (λ x. refl) news olds e;
         step_is = ap (λ h. merged_steps seen h news) u ∙ steps_rest news olds e (united seen olds);
-        turn_is = ap (λ n. λ (place : ℕ). n) (rest_total seen turn_most (λ x. refl) news olds e);
+        turn_is = fun_ext (λ place.
+            ap (λ h. merged_turn true seen h news place + merged_turn false seen h news place) u
+            ∙ rw (turn_rest true news olds e (united seen olds) place, turn_rest false news olds e (united seen olds) place) refl);
       }
 
   placed_within : (s : Seen Entry) → is_some s.place ≡ true → IsWithin s → reach true s < s.count
@@ -81,8 +96,8 @@ module _ {S : Type 0} (seen : S → Seen Entry) where
       go None u = come_within ss at ahead stands
       go (Some es) u =
           let d = pick ss at stands.among in
-          let found = stands_shows seen ss at ahead stands es u d in
-          rw found.1 (rank_within entry_total es (united_is seen ss es u).ascending found.0 (among_united seen sorted ss at ahead stands es u d found.0 found.1))
+          let h = stands_held seen sorted ss at ahead stands es u d in
+          rw h.shows (rank_within entry_total es (united_is seen ss es u).ascending h.entry h.among)
 
   pub arrives_goes : ((s : S) → IfSome (seen s).held (λ xs. IsTrue (are_points xs))) → (olds news : List S) (at at' : Option ℕ) (was ahead : Bool) (to : List Entry → Option ℕ) → all_rest seen news ≡ all_rest seen olds → Arrives seen news at' ahead to
       → Goes {T = Unit {0}} {E = SourceError} (merged seen olds at was) (merged seen news at' ahead) to (Ok tt)
@@ -185,13 +200,16 @@ module _ {S : Type 0} (seen : S → Seen Entry) where
   left_known sorted olds news at was ahead stands same left es u =
       let v = sym (rest_united seen news olds same) ∙ u in
       let d = pick olds at stands.among in
-      let found = stands_shows seen olds at was stands es v d in
-      let e = found.0 in
+      let h = stands_held seen sorted olds at was stands es v d in
+      let e = h.entry in
       let told = subst (λ (h : Option (List Entry)). IfSome h (λ es. (d : S) → IfSome (shown (seen (get_or olds at d))) (λ e. All (λ s. StandsNear ahead (cut_past ahead comes_before e) (seen s) × IsStraight ahead (seen s)) news))) v left.told d in
-      let stand = subst (λ (p : Option Entry). IfSome p (λ e. All (λ s. StandsNear ahead (cut_past ahead comes_before e) (seen s) × IsStraight ahead (seen s)) news)) found.1 told in
-      let m = among_united seen sorted olds at was stands es v d e found.1 in
-      let place = merged_at olds at was es v d e stands.among found.1 in
-      (cut_past ahead comes_before e, falls_at entry_total (not ahead) e, stand, sym (ap (step_place ahead es) place ∙ step_rank entry_total ahead es (united_is seen olds es v).ascending e m))
+      let stand = subst (λ (p : Option Entry). IfSome p (λ e. All (λ s. StandsNear ahead (cut_past ahead comes_before e) (seen s) × IsStraight ahead (seen s)) news)) h.shows told in
+      let place = merged_at olds at was es v d e stands.among h.shows in
+      (cut_past ahead comes_before e, falls_at entry_total (not ahead) e, stand, sym (ap (step_place ahead es) place ∙ step_rank entry_total ahead es (united_is seen olds es v).ascending e h.among))
+
+  pub left_arrives : ((s : S) → IfSome (seen s).held (λ xs. IsTrue (are_points xs))) → (olds news : List S) (at : ℕ) (best : Option ℕ) (was ahead : Bool) → Stands seen olds at was → all_rest seen news ≡ all_rest seen olds → Left seen olds news at was ahead → IsNearest seen news ahead best
+      → Arrives seen news best ahead (λ es. step_place ahead es (merged_place seen olds (Some at) was))
+  left_arrives sorted olds news at best was ahead stands same left near = settle sorted news best ahead _ near left.within (left_known sorted olds news at was ahead stands same left)
 
   pub left_moves : (olds news : List S) (at : ℕ) (at' : Option ℕ) (was ahead : Bool) → Stands seen olds at was → all_rest seen news ≡ all_rest seen olds → Left seen olds news at was ahead → Arrives seen news at' ahead (λ es. step_place ahead es (merged_place seen olds (Some at) was))
       → MovesOn ahead (merged_place seen olds (Some at) was) (merged_place seen news at' ahead)
@@ -237,9 +255,7 @@ module _ {S : Type 0} (seen : S → Seen Entry) where
       told : (u : Option (List Entry)) → united seen ss ≡ u → IfSome u (λ es. item ≡ item_at es (merged_place seen ss (Some at) ahead))
       told None u = tt
       told (Some es) u =
-          let found = stands_shows seen ss at ahead stands es u s in
-          let e = found.0 in
+          let h = stands_held seen sorted ss at ahead stands es u s in
           let some = ap (λ t. is_some (seen t).held) is ∙ (united_is seen ss es u).told at s stands.among in
           let mine : item ≡ shown (seen s) = told_at (seen s).held (λ xs. item ≡ item_at xs (seen s).place) [] some here.told in
-          let m = among_united seen sorted ss at ahead stands es u s e found.1 in
-          mine ∙ ap (λ t. shown (seen t)) is ∙ found.1 ∙ sym (rank_item entry_total es (united_is seen ss es u).ascending e m) ∙ ap (item_at es) (sym (merged_at ss at ahead es u s e stands.among found.1))
+          mine ∙ ap (λ t. shown (seen t)) is ∙ h.shows ∙ sym h.there ∙ ap (item_at es) (sym (merged_at ss at ahead es u s h.entry stands.among h.shows))

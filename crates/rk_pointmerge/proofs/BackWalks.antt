@@ -1,23 +1,25 @@
 -- The way back to the last visible entry.
-use Rattle.std.proofs.Common.{◌≡◌, ℕ, zero, suc, ◌+◌, ◌-◌, ◌<◌, ◌≤◌, length, Bool, true, false, not, cond, List, [], ◌∷◌, Option, Some, None, is_some, IfSome, IsTrue, refl, ap, sym, subst, ◌∙◌, ◌⊎◌, inl, inr, arith}
+use Rattle.std.proofs.Common.{◌≡◌, ℕ, zero, suc, ◌+◌, ◌-◌, ◌<◌, ◌≤◌, length, Bool, true, false, cond, List, [], ◌∷◌, Option, Some, None, is_some, unwrap_or, IfSome, IsTrue, refl, ap, sym, subst, ◌∙◌, ◌⊎◌, inl, inr, arith}
 use Rattle.std.specs.Option.{option_map_or}
 use Rattle.std.specs.Ordering.{is_lt, is_eq}
 use Rattle.rk_key.specs.Keys.{key_cmp}
 use Rattle.rk_key.specs.Laws.{key_cmp-total}
 use Rattle.rk_key.proofs.TotalOrders.{lt_itself, lt_back, eq_is}
 use Rattle.rk_key.proofs.Equality.{key_cmp-refl}
-use Rattle.rk_model.specs.Sources.{Seen, are_points, ascends, entry_cmp, count_before, item_at, op_key, next_place, prev_place, before_cut, points_below, prev_reads}
+use Rattle.rk_model.specs.Sources.{Seen, are_points, ascends, entry_cmp, count_before, item_at, op_key, next_place, prev_place, before_cut, points_below, next_reads, prev_reads, ReadsAreBounded}
 use Rattle.rk_model.specs.declared.op.Entry.{Entry}
 use Rattle.rk_merge.specs.Unions.{Among}
 use Rattle.rk_merge.specs.Cuts.{place_near, near_cut, cut_past, first_behind}
-use Rattle.rk_merge.proofs.Lists.{and_parts}
 use Rattle.rk_merge.proofs.Cuts.{near_item, near_is, near_best, seen_cut, seen_step, seen_past, seen_still, falls_at, own_near, cross, before_suc, tied_same}
-use Rattle.rk_pointmerge.specs.Merges.{comes_before, sum_to, step_most}
-use Rattle.rk_pointmerge.specs.Moves.{at_rest, IsWithin, Steps, Sought, GoesOn}
-use Rattle.rk_pointmerge.proofs.Runs.{Ran, rest_steps}
-use Rattle.rk_pointmerge.specs.Views.{is_visible, is_put, is_kept, Falls, Lands, FindsBack, FindsNewest, IsNewest, ComesBack, IsOld, gaps_left, back_most}
+use Rattle.rk_merge.specs.Several.{sum_to}
+use Rattle.rk_pointmerge.specs.Merges.{comes_before, turning_reads}
+use Rattle.rk_model.specs.Runs.{at_rest, IsWithin}
+use Rattle.rk_pointmerge.specs.Moves.{Steps, Sought, GoesOn}
+use Rattle.rk_model.proofs.Runs.{Ran, rest_steps}
+use Rattle.rk_pointmerge.specs.Views.{is_visible, is_put, is_kept, Falls, Lands, FindsBack, FindsNewest, IsNewest, ComesBack, IsOld, come_reads, gaps_left, back_most}
 use Rattle.rk_pointmerge.proofs.Bests.{entry_total}
-use Rattle.rk_pointmerge.proofs.Sums.{sum_to-more, sum_to-last}
+use Rattle.rk_pointmerge.proofs.Gaps.{Up, of_both, upward, with_both}
+use Rattle.rk_merge.proofs.Sums.{sum_to-more, sum_to-last, sum_to-at}
 use Rattle.rk_pointmerge.proofs.Sights.{key_sym, key_trans, before_newer, newer_before, squeeze, hidden_new, hidden_del, hidden_by, shown_newest}
 
 -- reads on the way back
@@ -50,10 +52,6 @@ prev_gap s some straight = go s.place some
     go None e = cc
     go (Some p) e = let h = sum_to-last s.step_reads p in omega arith
 
-not_true : (b : Bool) → not b ≡ true → b ≡ false
-not_true true w = cc
-not_true false w = refl
-
 module _ (n : ℕ) (es : List Entry) (up : ascends (λ a b. is_lt (entry_cmp a b)) es ≡ true) (t : Entry → Bool) where
   -- what is before the cut stands before what is seen behind it
   in_front : (u : Entry → Bool) → Falls u → (d f : Entry) → first_behind u es ≡ Some d → Among f es → u f ≡ comes_before f d
@@ -68,12 +66,12 @@ module _ (n : ℕ) (es : List Entry) (up : ascends (λ a b. is_lt (entry_cmp a b
     pub behind : first_behind u es ≡ Some d
     pub taken : t d ≡ true
     pub old : d.seq ≤ n
-    pub kept : is_kept key (op_key d.op) ≡ true
+    pub kept : key ≡ Some (op_key d.op)
     pub put : found ≡ is_put d.op
     pub passed : (y : Entry) → Among y es → t y ≡ true → u y ≡ false → (y ≡ d) ⊎ (is_visible n es y ≡ false)
 
   -- one entry back
-  back_first : (falls : Falls t) (place : Option ℕ) (key : Option (List ℕ)) (e : Entry) → place ≡ place_near false (count_before t es) (length es) → item_at es place ≡ Some e → e.seq ≤ n → is_kept key (op_key e.op) ≡ true → IsBack (cut_past false comes_before e) (prev_place place) key (is_put e.op)
+  back_first : (falls : Falls t) (place : Option ℕ) (key : Option (List ℕ)) (e : Entry) → place ≡ place_near false (count_before t es) (length es) → item_at es place ≡ Some e → e.seq ≤ n → key ≡ Some (op_key e.op) → IsBack (cut_past false comes_before e) (prev_place place) key (is_put e.op)
   back_first falls place key e at here old kept =
       let near : near_cut false t es ≡ Some e = sym (near_item false t es) ∙ ap (item_at es) (sym at) ∙ here in
       let seen = near_is false t es e near in
@@ -90,7 +88,7 @@ module _ (n : ℕ) (es : List Entry) (up : ascends (λ a b. is_lt (entry_cmp a b
         passed = λ y m p q. inl (seen_past entry_total false t falls es up e near y m p q);
       }
 
-  back_more : (u : Entry → Bool) (place : Option ℕ) (key : Option (List ℕ)) (found : Bool) (e : Entry) → IsBack u place key found → item_at es place ≡ Some e → e.seq ≤ n → is_kept key (op_key e.op) ≡ true → IsBack (cut_past false comes_before e) (prev_place place) key (is_put e.op)
+  back_more : (u : Entry → Bool) (place : Option ℕ) (key : Option (List ℕ)) (found : Bool) (e : Entry) → IsBack u place key found → item_at es place ≡ Some e → e.seq ≤ n → key ≡ Some (op_key e.op) → IsBack (cut_past false comes_before e) (prev_place place) key (is_put e.op)
   back_more u place key found e is here old kept = record {
     falls = falls_at entry_total true e;
     at = ap prev_place is.at ∙ seen_step entry_total false u is.falls es up e near;
@@ -110,13 +108,10 @@ module _ (n : ℕ) (es : List Entry) (up : ascends (λ a b. is_lt (entry_cmp a b
       among : Among e es
       among = (near_is false u es e near).1
 
-      same_kept : (k : Option (List ℕ)) (x y : Entry) → is_kept k (op_key x.op) ≡ true → is_kept k (op_key y.op) ≡ true → is_eq (key_cmp (op_key x.op) (op_key y.op)) ≡ true
-      same_kept None x y p q = cc
-      same_kept (Some k) x y p q = key_trans (op_key x.op) k (op_key y.op) p (key_sym (op_key y.op) k q)
-
       d_hidden : is_visible n es is.d ≡ false
       d_hidden =
-          let same = same_kept key e is.d kept is.kept in
+          let one : op_key e.op ≡ op_key is.d.op = cc (kept, is.kept) in
+          let same : is_eq (key_cmp (op_key e.op) (op_key is.d.op)) ≡ true = rw one (ap is_eq (key_cmp-refl (op_key is.d.op))) in
           let before = sym (in_front u is.falls is.d e is.behind among) ∙ (near_is false u es e near).0 in
           hidden_by n es e is.d among same old (before_newer e is.d same before)
 
@@ -140,9 +135,8 @@ module _ (n : ℕ) (es : List Entry) (up : ascends (λ a b. is_lt (entry_cmp a b
     },
   )
     where
-      kept_of : (k : Option (List ℕ)) (x : Entry) → is_kept k (op_key is.d.op) ≡ true → is_eq (key_cmp (op_key x.op) (op_key is.d.op)) ≡ true → is_kept k (op_key x.op) ≡ true
-      kept_of None x p q = cc
-      kept_of (Some k) x p q = key_trans (op_key x.op) (op_key is.d.op) k q p
+      kept_of : (x : Entry) → is_eq (key_cmp (op_key x.op) (op_key is.d.op)) ≡ true → is_kept key (op_key x.op) ≡ true
+      kept_of x q = rw is.kept q
 
       newest : (f : Entry) → Among f es → is_eq (key_cmp (op_key f.op) (op_key is.d.op)) ≡ true → f.seq ≤ n → is.d.seq < f.seq → ⊥
       newest f m same old newer = at_last (near_best entry_total false u is.falls es up f m in_u)
@@ -155,11 +149,11 @@ module _ (n : ℕ) (es : List Entry) (up : ascends (λ a b. is_lt (entry_cmp a b
               let before = sym (in_front u is.falls is.d e is.behind k) ∙ taken in
               let same-e = squeeze f e is.d on before same in
               let less = before_newer f e (key_trans (op_key f.op) (op_key is.d.op) (op_key e.op) same (key_sym (op_key e.op) (op_key is.d.op) same-e)) on in
-              elim why [ inl late ↦ absurd (omega arith) | inr other ↦ (let w : true ≡ false = sym (kept_of key e is.kept same-e) ∙ other in cc) ]
+              elim why [ inl late ↦ absurd (omega arith) | inr other ↦ (let w : true ≡ false = sym (kept_of e same-e) ∙ other in cc) ]
           at_e e k taken not-on false on why =
               let one : f ≡ e = tied_same entry_total es up f e m k on not-on in
               let num = ap (λ x. x.seq) one in
-              elim why [ inl late ↦ absurd (omega arith) | inr other ↦ (let w : true ≡ false = sym (ap (λ x. is_kept key (op_key x.op)) (sym one) ∙ kept_of key f is.kept same) ∙ other in cc) ]
+              elim why [ inl late ↦ absurd (omega arith) | inr other ↦ (let w : true ≡ false = sym (ap (λ x. is_kept key (op_key x.op)) (sym one) ∙ kept_of f same) ∙ other in cc) ]
 
           at_last : ((e : Entry) × (near_cut false u es ≡ Some e) × (comes_before e f ≡ false)) → ⊥
           at_last last =
@@ -219,7 +213,7 @@ module _ (n : ℕ) (es : List Entry) (up : ascends (λ a b. is_lt (entry_cmp a b
           let here : item_at es None ≡ Some best.0 = ap (item_at es) is.at ∙ near_item false u es ∙ best.1 in
           cc
 
-  find_come : (u : Entry → Bool) (place place' place'' : Option ℕ) (key : Option (List ℕ)) (w : Entry → Bool) (d : Entry) → IsFind u place → IsNewest n es u w place' key d true → place'' ≡ place_near true (count_before w es) (length es) → Lands false n es t place''
+  pub find_come : (u : Entry → Bool) (place place' place'' : Option ℕ) (key : Option (List ℕ)) (w : Entry → Bool) (d : Entry) → IsFind u place → IsNewest n es u w place' key d true → place'' ≡ place_near true (count_before w es) (length es) → Lands false n es t place''
   find_come u place place' None key w d is newest at = let here : item_at es None ≡ Some d = ap (item_at es) at ∙ near_item true w es ∙ newest.behind in cc
   find_come u place place' (Some i) key w d is newest at =
       let here : item_at es (Some i) ≡ Some d = ap (item_at es) at ∙ near_item true w es ∙ newest.behind in
@@ -235,93 +229,81 @@ module _ (n : ℕ) (es : List Entry) (up : ascends (λ a b. is_lt (entry_cmp a b
       nearest y m out vis true h true k = lt_back entry_total y d (sym (in_front w newest.falls d y newest.behind m) ∙ k)
 
 -- the same of what is seen of a source
-abbrev pub Up : List Entry → Type 0
-Up es = ascends (λ a b. is_lt (entry_cmp a b)) es ≡ true
+pub record ToldBack (b : Seen Entry) (place : Option ℕ) (n : ℕ) (key : Option (List ℕ)) (found : Bool) : Type 0 where
+  pub told : IfSome b.held (λ es. (up : Up es) (t : Entry → Bool) → Falls t → b.place ≡ place_near false (count_before t es) (length es) → (u : Entry → Bool) × IsBack n es up t u place key found)
 
-pub record ToldBack (b s : Seen Entry) (n : ℕ) (key : Option (List ℕ)) (found : Bool) : Type 0 where
-  pub told : IfSome b.held (λ es. (up : Up es) (t : Entry → Bool) → Falls t → b.place ≡ place_near false (count_before t es) (length es) → (u : Entry → Bool) × IsBack n es up t u s.place key found)
+pub record ToldFind (b : Seen Entry) (place : Option ℕ) (n : ℕ) : Type 0 where
+  pub told : IfSome b.held (λ es. (up : Up es) (t : Entry → Bool) → Falls t → b.place ≡ place_near false (count_before t es) (length es) → (u : Entry → Bool) × IsFind n es up t u place)
 
-pub record ToldFind (b s : Seen Entry) (n : ℕ) : Type 0 where
-  pub told : IfSome b.held (λ es. (up : Up es) (t : Entry → Bool) → Falls t → b.place ≡ place_near false (count_before t es) (length es) → (u : Entry → Bool) × IsFind n es up t u s.place)
-
--- where two sources hold the same, what holds of the list of one and of the other
-both : (h h' : Option (List Entry)) (P Q R : List Entry → Type 0) → h' ≡ h → IfSome h P → IfSome h' Q → ((es : List Entry) → P es → Q es → R es) → IfSome h R
-both None h' P Q R e p q f = tt
-both (Some es) None P Q R e p q f = cc
-both (Some es) (Some es') P Q R e p q f = let same : es' ≡ es = cc in f es p (subst Q same q)
-
-pair : (h : Option (List Entry)) (P Q : List Entry → Type 0) → IfSome h P → IfSome h Q → IfSome h (λ es. P es × Q es)
-pair None P Q p q = tt
-pair (Some es) P Q p q = (p, q)
-
-upward : (h : Option (List Entry)) → IfSome h (λ xs. IsTrue (are_points xs)) → IfSome h Up
-upward None s = tt
-upward (Some es) s = (and_parts _ _ s).1
-
-kept_own : (key : Option (List ℕ)) (k : List ℕ) → key ≡ Some k → is_kept key k ≡ true
-kept_own key k e = rw e (ap is_eq (key_cmp-refl k))
-
-pub told_first : (b t : Seen Entry) (n : ℕ) (key : Option (List ℕ)) (e : Entry) (item : Option Entry) → IfSome b.held (λ xs. item ≡ item_at xs b.place) → item ≡ Some e → IsOld n b → key ≡ Some (op_key e.op) → Steps false b t → ToldBack b t n key (is_put e.op)
-told_first b t n key e item here is old kept steps = record {
-  told = both b.held b.held (λ xs. item ≡ item_at xs b.place) (λ es. IfSome (item_at es b.place) (λ e. e.seq ≤ n) × (t.place ≡ prev_place b.place)) _ refl here (pair b.held (λ es. IfSome (item_at es b.place) (λ e. e.seq ≤ n)) (λ es. t.place ≡ prev_place b.place) old steps.told) (λ es p q up t falls at.
-      let found = sym p ∙ is in (
-        cut_past false comes_before e,
-        subst (λ (pl : Option ℕ). IsBack n es up t (cut_past false comes_before e) pl key (is_put e.op)) (sym q.1)
-            (back_first n es up t falls b.place key e at found (subst (λ (o : Option Entry). IfSome o (λ e. e.seq ≤ n)) found q.0) (kept_own key (op_key e.op) kept)),
-      ));
+-- one version back, also where the step is refused
+pub told_first : (b : Seen Entry) (n : ℕ) (key : Option (List ℕ)) (e : Entry) (item : Option Entry) → IfSome b.held (λ xs. item ≡ item_at xs b.place) → item ≡ Some e → IsOld n b → key ≡ Some (op_key e.op) → ToldBack b (prev_place b.place) n key (is_put e.op)
+told_first b n key e item here is old kept = record {
+  told = of_both b.held b.held (λ xs. item ≡ item_at xs b.place) (λ es. IfSome (item_at es b.place) (λ e. e.seq ≤ n)) _ refl here old (λ es p q up t falls at.
+      let found = sym p ∙ is in
+      (cut_past false comes_before e, back_first n es up t falls b.place key e at found (subst (λ (o : Option Entry). IfSome o (λ e. e.seq ≤ n)) found q) kept));
 }
 
-pub told_more : (b s t : Seen Entry) (n : ℕ) (key : Option (List ℕ)) (found : Bool) (e : Entry) (item : Option Entry) → s.held ≡ b.held → ToldBack b s n key found → IfSome s.held (λ xs. item ≡ item_at xs s.place) → item ≡ Some e → e.seq ≤ n → is_kept key (op_key e.op) ≡ true → Steps false s t → ToldBack b t n key (is_put e.op)
-told_more b s t n key found e item held was here is old kept steps = record {
-  told = both b.held s.held _ (λ es. (item ≡ item_at es s.place) × (t.place ≡ prev_place s.place)) _ held was.told (pair s.held (λ xs. item ≡ item_at xs s.place) (λ es. t.place ≡ prev_place s.place) here steps.told) (λ es p q up v falls at.
+pub told_more : (b s : Seen Entry) (n : ℕ) (key : Option (List ℕ)) (found : Bool) (e : Entry) (item : Option Entry) → s.held ≡ b.held → ToldBack b s.place n key found → IfSome s.held (λ xs. item ≡ item_at xs s.place) → item ≡ Some e → e.seq ≤ n → key ≡ Some (op_key e.op) → ToldBack b (prev_place s.place) n key (is_put e.op)
+told_more b s n key found e item held was here is old kept = record {
+  told = of_both b.held s.held _ _ _ held was.told here (λ es p q up v falls at.
       let back = p up v falls at in
-      (cut_past false comes_before e, subst (λ (pl : Option ℕ). IsBack n es up v (cut_past false comes_before e) pl key (is_put e.op)) (sym q.1) (back_more n es up v back.0 s.place key found e back.1 (sym q.0 ∙ is) old kept)));
+      (cut_past false comes_before e, back_more n es up v back.0 s.place key found e back.1 (sym q ∙ is) old kept));
 }
 
-pub told_done : (b s : Seen Entry) (n : ℕ) (key : Option (List ℕ)) (found : Bool) (item : Option Entry) → s.held ≡ b.held → IfSome b.held (λ xs. IsTrue (are_points xs)) → ToldBack b s n key found → IfSome s.held (λ xs. item ≡ item_at xs s.place)
+pub told_on : (b s t : Seen Entry) (n : ℕ) (key : Option (List ℕ)) (found : Bool) → s.held ≡ b.held → ToldBack b (prev_place s.place) n key found → Steps false s t → ToldBack b t.place n key found
+told_on b s t n key found held was steps = record {
+  told = of_both b.held s.held _ _ _ held was.told steps.told (λ es p q up v falls at. let back = p up v falls at in (back.0, subst (λ (o : Option ℕ). IsBack n es up v back.0 o key found) (sym q) back.1));
+}
+
+pub told_done : (b s : Seen Entry) (n : ℕ) (key : Option (List ℕ)) (found : Bool) (item : Option Entry) → s.held ≡ b.held → IfSome b.held (λ xs. IsTrue (are_points xs)) → ToldBack b s.place n key found → IfSome s.held (λ xs. item ≡ item_at xs s.place)
     → IfSome item (λ e. (n < e.seq) ⊎ (is_kept key (op_key e.op) ≡ false)) → FindsNewest n key b s found
 told_done b s n key found item held sorted was here stop =
-    both b.held s.held (λ es. Up es × ((up : Up es) (t : Entry → Bool) → Falls t → b.place ≡ place_near false (count_before t es) (length es) → (u : Entry → Bool) × IsBack n es up t u s.place key found)) (λ xs. item ≡ item_at xs s.place) _ held
-    (pair b.held Up _ (upward b.held sorted) was.told) here (λ es p q t falls at.
+    of_both b.held s.held (λ es. Up es × ((up : Up es) (t : Entry → Bool) → Falls t → b.place ≡ place_near false (count_before t es) (length es) → (u : Entry → Bool) × IsBack n es up t u s.place key found)) (λ xs. item ≡ item_at xs s.place) _ held
+    (with_both b.held Up _ (upward b.held sorted) was.told) here (λ es p q t falls at.
     let back = p.1 p.0 t falls at in
     let done = back_done n es p.0 t back.0 s.place key found back.1 (λ e at-e. subst (λ (o : Option Entry). IfSome o (λ e. (n < e.seq) ⊎ (is_kept key (op_key e.op) ≡ false))) (q ∙ at-e) stop) in
     (back.0, done.0, done.1))
 
-pub find_told : (b : Seen Entry) (n : ℕ) → ToldFind b b n
+pub find_told : (b : Seen Entry) (n : ℕ) → ToldFind b b.place n
 find_told b n = record { told = go b.held }
   where
     go : (h : Option (List Entry)) → IfSome h (λ es. (up : Up es) (t : Entry → Bool) → Falls t → b.place ≡ place_near false (count_before t es) (length es) → (u : Entry → Bool) × IsFind n es up t u b.place)
     go None = tt
     go (Some es) = λ up t falls at. (t, find_start n es up t b.place falls at)
 
-pub find_told_late : (b s t : Seen Entry) (n : ℕ) (e : Entry) (item : Option Entry) → s.held ≡ b.held → ToldFind b s n → IfSome s.held (λ xs. item ≡ item_at xs s.place) → item ≡ Some e → n < e.seq → Steps false s t → ToldFind b t n
-find_told_late b s t n e item held was here is late steps = record {
-  told = both b.held s.held _ (λ es. (item ≡ item_at es s.place) × (t.place ≡ prev_place s.place)) _ held was.told (pair s.held (λ xs. item ≡ item_at xs s.place) (λ es. t.place ≡ prev_place s.place) here steps.told) (λ es p q up v falls at.
+pub find_told_late : (b s : Seen Entry) (n : ℕ) (e : Entry) (item : Option Entry) → s.held ≡ b.held → ToldFind b s.place n → IfSome s.held (λ xs. item ≡ item_at xs s.place) → item ≡ Some e → n < e.seq → ToldFind b (prev_place s.place) n
+find_told_late b s n e item held was here is late = record {
+  told = of_both b.held s.held _ _ _ held was.told here (λ es p q up v falls at.
       let back = p up v falls at in
-      (cut_past false comes_before e, subst (λ (pl : Option ℕ). IsFind n es up v (cut_past false comes_before e) pl) (sym q.1) (find_late n es up v back.0 s.place e back.1 (sym q.0 ∙ is) late)));
+      (cut_past false comes_before e, find_late n es up v back.0 s.place e back.1 (sym q ∙ is) late));
 }
 
-pub find_told_deleted : (b s t : Seen Entry) (n : ℕ) (key : Option (List ℕ)) → s.held ≡ b.held → ToldFind b s n → FindsNewest n key s t false → ToldFind b t n
+pub find_told_on : (b s t : Seen Entry) (n : ℕ) → s.held ≡ b.held → ToldFind b (prev_place s.place) n → Steps false s t → ToldFind b t.place n
+find_told_on b s t n held was steps = record {
+  told = of_both b.held s.held _ _ _ held was.told steps.told (λ es p q up v falls at. let back = p up v falls at in (back.0, subst (λ (o : Option ℕ). IsFind n es up v back.0 o) (sym q) back.1));
+}
+
+pub find_told_deleted : (b s t : Seen Entry) (n : ℕ) (key : Option (List ℕ)) → s.held ≡ b.held → ToldFind b s.place n → FindsNewest n key s t false → ToldFind b t.place n
 find_told_deleted b s t n key held was newest = record {
-  told = both b.held s.held _ _ _ held was.told newest (λ es p q up v falls at.
+  told = of_both b.held s.held _ _ _ held was.told newest (λ es p q up v falls at.
       let back = p up v falls at in
       let found = q back.0 back.1.falls back.1.at in
       (found.0, find_deleted n es up v back.0 s.place t.place key found.0 found.1 back.1 found.2));
 }
 
-pub find_told_none : (b s : Seen Entry) (n : ℕ) → IfSome b.held (λ xs. IsTrue (are_points xs)) → ToldFind b s n → is_some s.place ≡ false → FindsBack n b s
+pub find_told_none : (b s : Seen Entry) (n : ℕ) → IfSome b.held (λ xs. IsTrue (are_points xs)) → ToldFind b s.place n → is_some s.place ≡ false → FindsBack n b s
 find_told_none b s n sorted was none =
-    both b.held b.held Up _ _ refl (upward b.held sorted) was.told (λ es up p t falls at. let back = p up t falls at in find_none n es up t back.0 s.place back.1 none)
+    of_both b.held b.held Up _ _ refl (upward b.held sorted) was.told (λ es up p t falls at. let back = p up t falls at in find_none n es up t back.0 s.place back.1 none)
 
-pub find_told_come : (b s t v : Seen Entry) (n : ℕ) (key : Option (List ℕ)) → s.held ≡ b.held → t.held ≡ b.held → IfSome b.held (λ xs. IsTrue (are_points xs)) → ToldFind b s n → FindsNewest n key s t true → ComesBack key t v → FindsBack n b v
+pub find_told_come : (b s t v : Seen Entry) (n : ℕ) (key : Option (List ℕ)) → s.held ≡ b.held → t.held ≡ b.held → IfSome b.held (λ xs. IsTrue (are_points xs)) → ToldFind b s.place n → FindsNewest n key s t true → ComesBack key t v → FindsBack n b v
 find_told_come b s t v n key hs ht sorted was newest come =
-    both b.held t.held (λ es. Up es × ((up : Up es) (x : Entry → Bool) → Falls x → b.place ≡ place_near false (count_before x es) (length es) → (u : Entry → Bool) × IsFind n es up x u s.place)
+    of_both b.held t.held (λ es. Up es × ((up : Up es) (x : Entry → Bool) → Falls x → b.place ≡ place_near false (count_before x es) (length es) → (u : Entry → Bool) × IsFind n es up x u s.place)
     × ((x : Entry → Bool) → Falls x → s.place ≡ place_near false (count_before x es) (length es) → (u : Entry → Bool) × (d : Entry) × IsNewest n es x u t.place key d true)) _ _ ht
-    (both b.held s.held (λ es. Up es × ((up : Up es) (x : Entry → Bool) → Falls x → b.place ≡ place_near false (count_before x es) (length es) → (u : Entry → Bool) × IsFind n es up x u s.place))
+    (of_both b.held s.held (λ es. Up es × ((up : Up es) (x : Entry → Bool) → Falls x → b.place ≡ place_near false (count_before x es) (length es) → (u : Entry → Bool) × IsFind n es up x u s.place))
     (λ es. (x : Entry → Bool) → Falls x → s.place ≡ place_near false (count_before x es) (length es) → (u : Entry → Bool) × (d : Entry) × IsNewest n es x u t.place key d true)
     (λ es. Up es × ((up : Up es) (x : Entry → Bool) → Falls x → b.place ≡ place_near false (count_before x es) (length es) → (u : Entry → Bool) × IsFind n es up x u s.place)
     × ((x : Entry → Bool) → Falls x → s.place ≡ place_near false (count_before x es) (length es) → (u : Entry → Bool) × (d : Entry) × IsNewest n es x u t.place key d true)) hs
-    (pair b.held Up _ (upward b.held sorted) was.told) newest (λ es p q. (p.0, p.1, q))) come (λ es p q x falls at.
+    (with_both b.held Up _ (upward b.held sorted) was.told) newest (λ es p q. (p.0, p.1, q))) come (λ es p q x falls at.
     let back = p.1 p.0 x falls at in
     let found = p.2 back.0 back.1.falls back.1.at in
     let w = found.2 in
@@ -331,7 +313,7 @@ pub came_step : (b t : Seen Entry) (key : Option (List ℕ)) → is_some b.place
 came_step b t key some steps = go b.held b.place some steps.told
   where
     go : (h : Option (List Entry)) (p : Option ℕ) → is_some p ≡ true → IfSome h (λ es. t.place ≡ next_place es p)
-        → IfSome h (λ es. (w : Entry → Bool) → p ≡ place_near false (count_before w es) (length es) → (d : Entry) → first_behind w es ≡ Some d → is_kept key (op_key d.op) ≡ true → t.place ≡ place_near true (count_before w es) (length es))
+        → IfSome h (λ es. (w : Entry → Bool) → p ≡ place_near false (count_before w es) (length es) → (d : Entry) → first_behind w es ≡ Some d → key ≡ Some (op_key d.op) → t.place ≡ place_near true (count_before w es) (length es))
     go None p some step = tt
     go (Some es) None some step = cc
     go (Some es) (Some i) some step = λ w at d behind kept. step ∙ cross true (count_before w es) es i (sym at)
@@ -355,12 +337,13 @@ came_seek b t key k is none to = go b.held b.place none to.told
         at_first false z behind = let one : x ≡ d = cc in rw (not_less (op_key x.op) (ap (λ y. is_eq (key_cmp (op_key y.op) k)) one ∙ same)) refl
 
     go : (h : Option (List Entry)) (p : Option ℕ) → is_some p ≡ false → IfSome h (λ es. t.place ≡ place_near true (points_below k es) (length es))
-        → IfSome h (λ es. (w : Entry → Bool) → p ≡ place_near false (count_before w es) (length es) → (d : Entry) → first_behind w es ≡ Some d → is_kept key (op_key d.op) ≡ true → t.place ≡ place_near true (count_before w es) (length es))
+        → IfSome h (λ es. (w : Entry → Bool) → p ≡ place_near false (count_before w es) (length es) → (d : Entry) → first_behind w es ≡ Some d → key ≡ Some (op_key d.op) → t.place ≡ place_near true (count_before w es) (length es))
     go None p none to' = tt
     go (Some es) (Some i) none to' = cc
     go (Some es) None none to' = λ w at d behind kept.
         let z = zero_cut (count_before w es) at in
-        let same : is_eq (key_cmp (op_key d.op) k) ≡ true = rw is at kept in
+        let one : op_key d.op ≡ k = cc (is, kept) in
+        let same : is_eq (key_cmp (op_key d.op) k) ≡ true = rw one (ap is_eq (key_cmp-refl k)) in
         to' ∙ ap (λ m. place_near true m (length es)) (first w es d z behind same ∙ sym z)
 
 -- what was read so far, and what the gaps left may read, together
@@ -378,11 +361,36 @@ back_ran b s t f f' f'' r r' r'' m ran spent some straight steps on =
     let bound = on.reads.bound in
     (record { same = on.same ∙ ran.same; faults = on.faults ∙ ran.faults; reads = record { later = omega arith; bound = omega arith } }, omega arith)
 
+pub come_by_step : (b : Seen Entry) (key : Option (List ℕ)) → is_some b.place ≡ true → ReadsAreBounded b → next_reads b ≤ come_reads key b
+come_by_step b key some bounded = go b.place some bounded.next
+  where
+    go : (p : Option ℕ) → is_some p ≡ true → b.turn_to_next ≤ option_map_or b.turn_reads p 0 → option_map_or (λ i. b.step_reads (i + 1)) p 0 + b.turn_to_next ≤ turning_reads true (unwrap_or key []) b p
+    go None e le = cc
+    go (Some i) e le = omega arith
+
+pub come_by_seek : (b : Seen Entry) (key : Option (List ℕ)) (k : List ℕ) → key ≡ Some k → is_some b.place ≡ false → b.seek_reads k ≤ come_reads key b
+come_by_seek b key k is none = go b.place none
+  where
+    go : (p : Option ℕ) → is_some p ≡ false → b.seek_reads k ≤ turning_reads true (unwrap_or key []) b p
+    go None e = rw is (omega arith)
+    go (Some i) e = cc
+
 -- there and back
-pub most_back : (b t : Seen Entry) → at_rest t ≡ at_rest b → IsWithin b → gaps_left t ≤ gaps_left b → (gaps_left b - gaps_left t) + (t.seek_reads + step_most t) ≤ back_most b
-most_back b t same within less =
+come_most : (key : Option (List ℕ)) (t : Seen Entry) → IsWithin t → ReadsAreBounded t → come_reads key t ≤ t.seek_most + sum_to t.step_reads t.count + sum_to t.turn_reads t.count
+come_most key t within bounded = go t.place within
+  where
+    go : (p : Option ℕ) → IfSome p (λ i. i < t.count) → turning_reads true (unwrap_or key []) t p ≤ t.seek_most + sum_to t.step_reads t.count + sum_to t.turn_reads t.count
+    go None w = let le = bounded.seek (unwrap_or key []) in omega arith
+    go (Some i) w =
+        let one = sum_to-at t.step_reads (i + 1) t.count (omega arith) in
+        let two = sum_to-at t.turn_reads i t.count (omega arith) in
+        omega arith
+
+pub most_back : (b t : Seen Entry) (key : Option (List ℕ)) → at_rest t ≡ at_rest b → IsWithin b → IsWithin t → ReadsAreBounded t → gaps_left t ≤ gaps_left b → (gaps_left b - gaps_left t) + come_reads key t ≤ back_most b
+most_back b t key same within within-t bounded less =
     let all = gaps_most b within in
-    let seek : t.seek_reads ≡ b.seek_reads = ap (λ x. x.seek_reads) same in
+    let come = come_most key t within-t bounded in
+    let seek : t.seek_most ≡ b.seek_most = ap (λ x. x.seek_most) same in
     let steps : sum_to t.step_reads t.count ≡ sum_to b.step_reads b.count = ap (λ x. sum_to x.step_reads x.count) same in
     let turns : sum_to t.turn_reads t.count ≡ sum_to b.turn_reads b.count = ap (λ x. sum_to x.turn_reads x.count) same in
     omega arith

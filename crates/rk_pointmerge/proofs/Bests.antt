@@ -11,7 +11,7 @@ use Rattle.rk_model.specs.declared.op.Entry.{Entry}
 use Rattle.rk_merge.specs.Cuts.{is_nearer}
 use Rattle.rk_pointmerge.specs.Merges.{comes_before, shown}
 use Rattle.rk_pointmerge.specs.Moves.{beats, IsNearest}
-use Rattle.rk_pointmerge.proofs.Alls.{any_default}
+use Rattle.rk_merge.proofs.Several.{any_default}
 
 pub entry_total : IsTotalOrder entry_cmp
 entry_total = then_total (on_total (λ (e : Entry). op_key e.op) key_cmp-total) (on_total (λ (e : Entry). e.seq) (back_total nat_cmp_total))

@@ -3,19 +3,22 @@ use Rattle.std.proofs.Common.{◌≡◌, ℕ, zero, suc, ◌+◌, ◌<◌, ◌�
 use mathlib.Core.Bool.{beq}
 use Rattle.std.specs.Option.{option_map_or}
 use Rattle.std.proofs.lemmas.Bool.{cases_eq}
-use Rattle.rk_model.specs.Sources.{Seen, ascends, are_points, count_before, op_key, TurnsAreBounded, next_reads, prev_reads}
+use Rattle.rk_model.specs.Sources.{Seen, ascends, are_points, count_before, op_key, ReadsAreBounded, next_reads, prev_reads}
 use Rattle.rk_model.specs.declared.op.Entry.{Entry}
 use Rattle.rk_merge.specs.Unions.{Among}
 use Rattle.rk_merge.specs.Cuts.{place_near, cut_at, cut_past, step_place}
 use Rattle.rk_merge.proofs.Cuts.{near_is, near_rank, step_rank, rank_past, rank_item, cut_agree, before_suc}
 use Rattle.rk_merge.proofs.Unions.{union_from, union_apart}
-use Rattle.rk_pointmerge.specs.Merges.{united, told_items, comes_before, shown, rank, total, reach, come, merged, merged_place, merged_steps, merged_turn, place_of, next_reads_from, prev_reads_from, has_entry, step_most, turn_at_last}
-use Rattle.rk_pointmerge.specs.Moves.{MeetsKey, at_rest, all_rest, StandsNear, IsStraight, IsWithin, Stands, Left, Steps, Turned, go_reads}
+use Rattle.rk_merge.specs.Several.{total}
+use Rattle.rk_pointmerge.specs.Merges.{united, told_items, comes_before, shown, rank, reach, come, merged, merged_place, merged_steps, merged_turn, turn_to, turning_reads, turn_from, turn_most, place_of, next_reads_from, prev_reads_from, has_entry, step_most, turn_at_last}
+use Rattle.rk_model.specs.Runs.{at_rest, IsWithin}
+use Rattle.rk_merge.specs.Several.{all_rest}
+use Rattle.rk_pointmerge.specs.Moves.{MeetsKey, StandsNear, IsStraight, Stands, Left, Steps, Turned, go_reads}
 use Rattle.rk_pointmerge.proofs.Bests.{entry_total}
 use Rattle.rk_pointmerge.proofs.Unites.{IsUnited, united_is, source_ascends, shown_near}
 use Rattle.rk_pointmerge.proofs.Keys.{meets_key}
-use Rattle.rk_pointmerge.proofs.Turns.{straight, next_most, prev_most}
-use Rattle.rk_pointmerge.proofs.Alls.{rest_at, rest_length, any_default, pick}
+use Rattle.rk_pointmerge.proofs.Turns.{straight, next_most, prev_most, turns_most}
+use Rattle.rk_merge.proofs.Several.{rest_at, rest_length, any_default, pick}
 
 pub same_way : (a b : Bool) → beq a b ≡ true → a ≡ b
 same_way true true e = refl
@@ -211,81 +214,105 @@ module _ {S : Type 0} (seen : S → Seen Entry) where
       go None u = refl
       go (Some es) u = let found = stands_shows ss at was stands es u d in rw found.1 refl
 
-  pub turn_reads_at : (ss : List S) (at : ℕ) (ahead : Bool) → Stands seen ss at (not ahead) → merged_turn seen ss ≤ go_reads ahead (merged seen ss (Some at) (not ahead))
-  turn_reads_at ss at ahead stands = go ahead stands
-    where
-      all : (p : Option ℕ) → is_some p ≡ true → merged_turn seen ss ≤ option_map_or (λ (i : ℕ). merged_turn seen ss) p 0
-      all None e = cc
-      all (Some i) e = omega arith
+  -- where the union is told, the source that has the merge's entry stands at it, and it is one of the union
+  pub record Held (ss : List S) (at : ℕ) (ahead : Bool) (es : List Entry) (d : S) : Type 0 where
+    pub entry : Entry
+    pub shows : shown (seen (get_or ss at d)) ≡ Some entry
+    pub mine : Among entry (told_items (seen (get_or ss at d)))
+    pub here : (seen (get_or ss at d)).place ≡ Some (rank entry (told_items (seen (get_or ss at d))))
+    pub straight : IsStraight ahead (seen (get_or ss at d))
+    pub among : Among entry es
+    pub there : slice_get es (rank entry es) ≡ Some entry
 
-      go : (a : Bool) → Stands seen ss at (not a) → merged_turn seen ss ≤ go_reads a (merged seen ss (Some at) (not a))
-      go true stands = let le = all (merged_place seen ss (Some at) false) (merged_some ss at false stands (pick ss at stands.among)) in omega arith
-      go false stands = let le = all (merged_place seen ss (Some at) true) (merged_some ss at true stands (pick ss at stands.among)) in omega arith
+  pub stands_held : ((s : S) → IfSome (seen s).held (λ xs. IsTrue (are_points xs))) → (ss : List S) (at : ℕ) (ahead : Bool) → Stands seen ss at ahead → (es : List Entry) → united seen ss ≡ Some es → (d : S) → Held ss at ahead es d
+  stands_held sorted ss at ahead stands es u d =
+      let s = seen (get_or ss at d) in
+      let found = stands_shows ss at ahead stands es u d in
+      let e = found.0 in
+      let near = stands_told ss at ahead stands es u d e found.1 at d stands.among in
+      let mine = (near_is ahead (cut_at ahead comes_before e) (told_items s) e (sym (shown_near ahead _ s near.0) ∙ found.1)).1 in
+      let whole = united_is seen ss es u in
+      let among = subst (λ (xs : List Entry). Among e xs) whole.is (union_from comes_before (λ s. told_items (seen s)) ss at d e stands.among mine) in
+      record {
+        entry = e;
+        shows = found.1;
+        mine = mine;
+        here = near.0 ∙ near_rank entry_total ahead (told_items s) (source_ascends s (sorted (get_or ss at d))) e mine;
+        straight = near.1;
+        among = among;
+        there = rank_item entry_total es whole.ascending e among;
+      }
 
   has : (e : Entry) (s : Seen Entry) → ascends comes_before (told_items s) ≡ true → Among e (told_items s) → has_entry e s ≡ true
   has e s up m = let past = rank_past entry_total (told_items s) up e m in lt-ltb _ _ (omega arith)
 
-  next_from : (e : Entry) (s : Seen Entry) → ascends comes_before (told_items s) ≡ true → Among e (told_items s) → s.place ≡ Some (rank e (told_items s)) → s.turn_to_next ≡ 0 → next_reads s ≤ next_reads_from e s
-  next_from e s up m at straight = rw (has e s up m, at, straight) (omega arith)
+  next_from : (e : Entry) (s : Seen Entry) → has_entry e s ≡ true → s.place ≡ Some (rank e (told_items s)) → s.turn_to_next ≡ 0 → next_reads s ≤ next_reads_from e s
+  next_from e s has at straight = rw (has, at, straight) (omega arith)
 
-  prev_from : (e : Entry) (s : Seen Entry) → ascends comes_before (told_items s) ≡ true → Among e (told_items s) → s.place ≡ Some (rank e (told_items s)) → IsStraight false s → prev_reads s ≤ prev_reads_from e s
-  prev_from e s up m at straight =
+  prev_from : (e : Entry) (s : Seen Entry) → has_entry e s ≡ true → s.place ≡ Some (rank e (told_items s)) → IsStraight false s → prev_reads s ≤ prev_reads_from e s
+  prev_from e s has at straight =
       let le : s.turn_to_prev ≤ turn_at_last s (rank e (told_items s)) = rw at at straight in
-      rw (has e s up m, at) (omega arith)
+      rw (has, at) (omega arith)
 
   -- what a step of the source may read is what the merge's may
-  pub step_reads_at : ((s : S) → IfSome (seen s).held (λ xs. IsTrue (are_points xs))) → ((s : S) → TurnsAreBounded (seen s)) → (ss : List S) (at : ℕ) (ahead : Bool) (d : S) → Stands seen ss at ahead
+  pub step_reads_at : ((s : S) → IfSome (seen s).held (λ xs. IsTrue (are_points xs))) → ((s : S) → ReadsAreBounded (seen s)) → (ss : List S) (at : ℕ) (ahead : Bool) (d : S) → Stands seen ss at ahead
       → go_reads ahead (seen (get_or ss at d)) ≤ go_reads ahead (merged seen ss (Some at) ahead)
-  step_reads_at sorted turns ss at ahead d stands = go ahead stands
+  step_reads_at sorted bounded ss at ahead d stands = go ahead stands
     where
-      up : ascends comes_before (told_items (seen (get_or ss at d))) ≡ true
-      up = source_ascends (seen (get_or ss at d)) (sorted (get_or ss at d))
-
-      among : (a : Bool) (e : Entry) → StandsNear a (cut_at a comes_before e) (seen (get_or ss at d)) → shown (seen (get_or ss at d)) ≡ Some e → Among e (told_items (seen (get_or ss at d)))
-      among a e near shows = (near_is a (cut_at a comes_before e) (told_items (seen (get_or ss at d))) e (sym (shown_near a _ (seen (get_or ss at d)) near) ∙ shows)).1
-
-      all : (es : List Entry) → united seen ss ≡ Some es → at < length ss → (e : Entry) → Among e (told_items (seen (get_or ss at d))) → slice_get es (rank e es) ≡ Some e
-      all es u h e m =
-          let whole = united_is seen ss es u in
-          rank_item entry_total es whole.ascending e (subst (λ (xs : List Entry). Among e xs) whole.is (union_from comes_before (λ s. told_items (seen s)) ss at d e h m))
+      own : (e : Entry) → Among e (told_items (seen (get_or ss at d))) → has_entry e (seen (get_or ss at d)) ≡ true
+      own e m = has e (seen (get_or ss at d)) (source_ascends (seen (get_or ss at d)) (sorted (get_or ss at d))) m
 
       ahead_at : Stands seen ss at true → (u : Option (List Entry)) → united seen ss ≡ u → next_reads (seen (get_or ss at d)) ≤ option_map_or (λ i. merged_steps seen u ss (i + 1)) (place_of seen u ss true (get_or ss at d)) 0 + 0
       ahead_at stands None u =
-          let one = next_most (seen (get_or ss at d)) (stands.within at d stands.among) (turns (get_or ss at d)) in
+          let one = next_most (seen (get_or ss at d)) (stands.within at d stands.among) (bounded (get_or ss at d)) in
           let most = total_at (λ s. step_most (seen s)) ss at d stands.among in
           omega arith
       ahead_at stands (Some es) u =
-          let found = stands_shows ss at true stands es u d in
-          let e = found.0 in
-          let near = stands_told ss at true stands es u d e found.1 at d stands.among in
-          let m = among true e near.0 found.1 in
-          let place = near.0 ∙ near_rank entry_total true (told_items (seen (get_or ss at d))) up e m in
-          let one = next_from e (seen (get_or ss at d)) up m place near.1 in
-          let most = total_at (λ s. next_reads_from e (seen s)) ss at d stands.among in
-          rw (found.1, add-one, before_suc (rank e es), all es u stands.among e m) (omega arith)
+          let h = stands_held sorted ss at true stands es u d in
+          let one = next_from h.entry (seen (get_or ss at d)) (own h.entry h.mine) h.here h.straight in
+          let most = total_at (λ s. next_reads_from h.entry (seen s)) ss at d stands.among in
+          rw (h.shows, add-one, before_suc (rank h.entry es), h.there) (omega arith)
 
       back_at : Stands seen ss at false → (u : Option (List Entry)) → united seen ss ≡ u → prev_reads (seen (get_or ss at d)) ≤ option_map_or (λ i. merged_steps seen u ss i) (place_of seen u ss false (get_or ss at d)) 0 + 0
       back_at stands None u =
-          let one = prev_most (seen (get_or ss at d)) (stands.within at d stands.among) (turns (get_or ss at d)) in
+          let one = prev_most (seen (get_or ss at d)) (stands.within at d stands.among) (bounded (get_or ss at d)) in
           let most = total_at (λ s. step_most (seen s)) ss at d stands.among in
           omega arith
       back_at stands (Some es) u =
-          let found = stands_shows ss at false stands es u d in
-          let e = found.0 in
-          let near = stands_told ss at false stands es u d e found.1 at d stands.among in
-          let m = among false e near.0 found.1 in
-          let place = near.0 ∙ near_rank entry_total false (told_items (seen (get_or ss at d))) up e m in
-          let one = prev_from e (seen (get_or ss at d)) up m place near.1 in
-          let most = total_at (λ s. prev_reads_from e (seen s)) ss at d stands.among in
-          rw (found.1, all es u stands.among e m) (omega arith)
+          let h = stands_held sorted ss at false stands es u d in
+          let one = prev_from h.entry (seen (get_or ss at d)) (own h.entry h.mine) h.here h.straight in
+          let most = total_at (λ s. prev_reads_from h.entry (seen s)) ss at d stands.among in
+          rw (h.shows, h.there) (omega arith)
 
       go : (a : Bool) → Stands seen ss at a → go_reads a (seen (get_or ss at d)) ≤ go_reads a (merged seen ss (Some at) a)
       go true stands = rw (slice_at ss at d stands.among) (ahead_at stands (united seen ss) refl)
       go false stands = rw (slice_at ss at d stands.among) (back_at stands (united seen ss) refl)
 
-  -- the entry of the source is one of the union
-  pub among_united : ((s : S) → IfSome (seen s).held (λ xs. IsTrue (are_points xs))) → (ss : List S) (at : ℕ) (was : Bool) → Stands seen ss at was → (es : List Entry) → united seen ss ≡ Some es → (d : S) (e : Entry) → shown (seen (get_or ss at d)) ≡ Some e → Among e es
-  among_united sorted ss at was stands es u d e shows =
-      let near = (stands_told ss at was stands es u d e shows at d stands.among).0 in
-      let m = (near_is was (cut_at was comes_before e) (told_items (seen (get_or ss at d))) e (sym (shown_near was _ (seen (get_or ss at d)) near) ∙ shows)).1 in
-      subst (λ (xs : List Entry). Among e xs) (united_is seen ss es u).is (union_from comes_before (λ s. told_items (seen s)) ss at d e stands.among m)
+  -- what turns of all sources may read is what that of the merge may
+  pub turn_reads_at : ((s : S) → IfSome (seen s).held (λ xs. IsTrue (are_points xs))) → ((s : S) → ReadsAreBounded (seen s)) → (ss : List S) (at : ℕ) (ahead : Bool) (key : List ℕ) → Stands seen ss at (not ahead)
+      → ((d : S) (e : Entry) → shown (seen (get_or ss at d)) ≡ Some e → key ≡ op_key e.op) → total (λ s. turning_reads ahead key (seen s) (seen s).place) ss ≤ turn_to ahead (merged seen ss (Some at) (not ahead))
+  turn_reads_at sorted bounded ss at ahead key stands keyed = go ahead turn_at
+    where
+      d : S
+      d = pick ss at stands.among
+
+      turns : (u : Option (List Entry)) → united seen ss ≡ u → total (λ s. turning_reads ahead key (seen s) (seen s).place) ss ≤ option_map_or (merged_turn ahead seen u ss) (place_of seen u ss (not ahead) (get_or ss at d)) 0
+      turns None u = total_le (λ s. turning_reads ahead key (seen s) (seen s).place) (λ s. turn_most (seen s)) ss ss refl (λ k c l. turns_most ahead key (seen (get_or ss k c)) (stands.within k c l) (bounded (get_or ss k c)))
+      turns (Some es) u =
+          let h = stands_held sorted ss at (not ahead) stands es u d in
+          let e = h.entry in
+          rw (h.shows, h.there, keyed d e h.shows)
+          (total_le (λ s. turning_reads ahead (op_key e.op) (seen s) (seen s).place) (λ s. turn_from ahead e (seen s)) ss ss refl (λ k c l.
+          let same = ap (turning_reads ahead (op_key e.op) (seen (get_or ss k c))) (stands_told ss at (not ahead) stands es u d e h.shows k c l).0 in
+          omega arith))
+
+      turn_at : total (λ s. turning_reads ahead key (seen s) (seen s).place) ss ≤ option_map_or (merged_turn ahead seen (united seen ss) ss) (merged_place seen ss (Some at) (not ahead)) 0
+      turn_at = rw (slice_at ss at d stands.among) (turns (united seen ss) refl)
+
+      go : (a : Bool) → total (λ s. turning_reads ahead key (seen s) (seen s).place) ss ≤ option_map_or (merged_turn a seen (united seen ss) ss) (merged_place seen ss (Some at) (not a)) 0 → total (λ s. turning_reads ahead key (seen s) (seen s).place) ss ≤ turn_to a (merged seen ss (Some at) (not a))
+      go true le = le
+      go false le = le
+
+pub turn_goes : (ahead : Bool) (s : Seen Entry) → turn_to ahead s ≤ go_reads ahead s
+turn_goes true s = omega arith
+turn_goes false s = omega arith

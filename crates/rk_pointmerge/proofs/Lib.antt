@@ -1,5 +1,4 @@
-pub mod Runs
-pub mod Sums
+mod Examples
 pub mod Walks
 pub mod Turns
 pub mod Alls
@@ -13,3 +12,6 @@ pub mod Sights
 pub mod AheadWalks
 pub mod BackWalks
 pub mod ViewPlaces
+pub mod Gaps
+pub mod BackReads
+pub mod ViewReads

@@ -10,7 +10,7 @@ use Rattle.rk_merge.proofs.Unions.{union_from, union_to}
 use Rattle.rk_pointmerge.specs.Merges.{told_items, comes_before, shown, rank}
 use Rattle.rk_pointmerge.specs.Moves.{StandsNear, IsStraight}
 use Rattle.rk_pointmerge.proofs.Bests.{entry_total}
-use Rattle.rk_pointmerge.proofs.Alls.{pick}
+use Rattle.rk_merge.proofs.Several.{pick}
 use Rattle.rk_pointmerge.proofs.Unites.{IsUnited, source_ascends, shown_near}
 
 nearer_ge : (ahead : Bool) (x y z : Entry) → is_nearer ahead comes_before x y ≡ false → is_nearer ahead comes_before y z ≡ false → is_nearer ahead comes_before x z ≡ false

@@ -1,15 +1,18 @@
 -- What hides an entry, and what doesn't.
-use Rattle.std.proofs.Common.{◌≡◌, ℕ, ◌<◌, ◌≤◌, Bool, true, false, not, ◌&&◌, ◌||◌, List, [], ◌∷◌, refl, ap, sym, ◌∙◌, inl, inr, cond, arith, ◌==◌, Less, Equal, Greater, ltb-true, lt-ltb, le-leb, leb-true, nat_lt, nat_le}
+use Rattle.std.proofs.Common.{◌≡◌, ℕ, ◌<◌, ◌≤◌, length, Bool, true, false, not, ◌&&◌, ◌||◌, List, [], ◌∷◌, Some, refl, ap, sym, ◌∙◌, inl, inr, cond, arith, ◌==◌, Less, Equal, Greater, ltb-true, lt-ltb, le-leb, leb-true, nat_lt, nat_le}
+use Rattle.std.proofs.lemmas.Bool.{and_left, and_right}
 use Rattle.std.specs.List.{list_any}
 use Rattle.std.specs.Ordering.{is_lt, is_eq, ordering_reverse, nat_cmp}
-use Rattle.rk_key.specs.Keys.{key_cmp}
+use Rattle.rk_key.specs.Keys.{key_cmp, IsKey}
 use Rattle.rk_key.specs.Laws.{key_cmp-total}
+use Rattle.rk_key.proofs.Equality.{same_key_from_eq}
 use Rattle.rk_key.proofs.TotalOrders.{lt_back, eq_is, eq_from}
 use Rattle.rk_model.specs.Sources.{op_key}
 use Rattle.rk_model.specs.declared.op.Entry.{Entry}
 use Rattle.rk_merge.specs.Unions.{Among}
+use Rattle.rk_merge.proofs.Lists.{and_parts, and_true}
 use Rattle.rk_pointmerge.specs.Merges.{comes_before}
-use Rattle.rk_pointmerge.specs.Views.{hides, is_visible, is_put}
+use Rattle.rk_pointmerge.specs.Views.{hides, is_visible, is_put, kept_key, IsKept}
 use Rattle.rk_pointmerge.proofs.Bests.{entry_total}
 use Rattle.rk_pointmerge.proofs.Keys.{not_below}
 
@@ -49,21 +52,6 @@ squeeze f e g p q same =
     key_cmp-total.antisymm (op_key e.op) (op_key g.op) ∙ ap ordering_reverse turned ∙ sym (key_cmp-total.antisymm (op_key e.op) (op_key f.op)) in
     ap is_eq (eq_from key_cmp-total (op_key e.op) (op_key g.op) (ap is_lt back ∙ low) high)
 
-and_false_left : (a b : Bool) → a ≡ false → a && b ≡ false
-and_false_left a b e = rw e refl
-
-and_false_right : (a b : Bool) → b ≡ false → a && b ≡ false
-and_false_right true b e = e
-and_false_right false b e = refl
-
-and_true : (a b : Bool) → a ≡ true → b ≡ true → a && b ≡ true
-and_true a b p q = rw (p, q) refl
-
-and_parts : (a b : Bool) → a && b ≡ true → (a ≡ true) × (b ≡ true)
-and_parts true true e = (refl, refl)
-and_parts true false e = cc
-and_parts false b e = cc
-
 any_among : (t : Entry → Bool) (es : List Entry) (e : Entry) → Among e es → t e ≡ true → list_any t es ≡ true
 any_among t [] e m h = absurd m
 any_among t (x ∷ xs) e (inl q) h = rw (ap t (sym q) ∙ h) refl
@@ -81,7 +69,7 @@ module _ (n : ℕ) (es : List Entry) where
   pub hidden_new : (e : Entry) → n < e.seq → is_visible n es e ≡ false
   hidden_new e h =
       let late : nat_le e.seq n ≡ false = not_le e.seq n h in
-      and_false_left (is_put e.op && nat_le e.seq n) _ (and_false_right (is_put e.op) (nat_le e.seq n) late)
+      and_left (is_put e.op && nat_le e.seq n) _ (and_right (is_put e.op) (nat_le e.seq n) late)
     where
       not_le : (a b : ℕ) → b < a → nat_le a b ≡ false
       not_le a b h = go (nat_le a b) refl
@@ -91,12 +79,12 @@ module _ (n : ℕ) (es : List Entry) where
           go false e = refl
 
   pub hidden_del : (e : Entry) → is_put e.op ≡ false → is_visible n es e ≡ false
-  hidden_del e h = and_false_left (is_put e.op && nat_le e.seq n) _ (and_false_left (is_put e.op) _ h)
+  hidden_del e h = and_left (is_put e.op && nat_le e.seq n) _ (and_left (is_put e.op) _ h)
 
   pub hidden_by : (f e : Entry) → Among f es → is_eq (key_cmp (op_key f.op) (op_key e.op)) ≡ true → f.seq ≤ n → e.seq < f.seq → is_visible n es e ≡ false
   hidden_by f e m same old newer =
       let one : hides n f e ≡ true = and_true (is_eq (key_cmp (op_key f.op) (op_key e.op)) && nat_le f.seq n) (nat_lt e.seq f.seq) (and_true (is_eq (key_cmp (op_key f.op) (op_key e.op))) (nat_le f.seq n) same (le-leb f.seq n old)) (lt-ltb e.seq f.seq newer) in
-      and_false_right (is_put e.op && nat_le e.seq n) _ (ap not (any_among (λ f. hides n f e) es f m one))
+      and_right (is_put e.op && nat_le e.seq n) _ (ap not (any_among (λ f. hides n f e) es f m one))
 
   pub shown_newest : (e : Entry) → is_put e.op ≡ true → e.seq ≤ n → ((f : Entry) → Among f es → is_eq (key_cmp (op_key f.op) (op_key e.op)) ≡ true → f.seq ≤ n → e.seq < f.seq → ⊥) → is_visible n es e ≡ true
   shown_newest e put old newest =
@@ -117,3 +105,9 @@ module _ (n : ℕ) (es : List Entry) where
       let parts = (and_parts (is_put e.op && nat_le e.seq n) _ h).0 in
       let two = and_parts (is_put e.op) (nat_le e.seq n) parts in
       (two.0, leb-true e.seq n two.1)
+
+-- a key that is the one that is kept has its bytes
+pub kept_same : (bytes key : List ℕ) → IsKept bytes → IsKey key → (length bytes == 0) ≡ false → is_eq (key_cmp key bytes) ≡ true → kept_key bytes ≡ Some key
+kept_same [] key kept is some same = cc
+kept_same (b ∷ bs) key (inl e) is some same = cc
+kept_same (b ∷ bs) key (inr k) is some same = ap (λ x. Some x) (sym (same_key_from_eq key (b ∷ bs) is k same))

@@ -1,15 +1,18 @@
 -- A source that turns, and one that is led to its last entry.
-use Rattle.std.proofs.Common.{◌≡◌, ℕ, zero, suc, ◌+◌, ◌<◌, ◌≤◌, length, Bool, true, false, not, List, [], Option, Some, None, is_some, IfSome, OnOk, Result, Ok, Err, refl, ap, sym, subst, ◌∙◌, ◌⊎◌, inl, inr, arith, unwrap_or, if◌then◌else◌, eq-eqb}
+use Rattle.std.proofs.Common.{◌≡◌, ℕ, zero, suc, ◌+◌, ◌-◌, ◌<◌, ◌≤◌, length, Bool, true, false, not, List, [], Option, Some, None, is_some, IfSome, OnOk, Result, Ok, Err, refl, ap, sym, subst, ◌∙◌, ◌⊎◌, inl, inr, arith, unwrap_or, if◌then◌else◌, eq-eqb}
 use Rattle.std.specs.Option.{option_map_or}
 use Rattle.std.specs.Ordering.{is_lt}
 use Rattle.rk_key.specs.Keys.{key_cmp}
-use Rattle.rk_model.specs.Sources.{Seen, TurnsAreBounded, op_key, behind_cut, before_cut, next_reads, prev_reads, points_below}
+use Rattle.rk_model.specs.Sources.{Seen, ReadsAreBounded, op_key, behind_cut, before_cut, next_reads, prev_reads, points_below}
 use Rattle.rk_model.specs.declared.op.Entry.{Entry}
 use Rattle.rk_merge.specs.Cuts.{place_near, step_place}
+use Rattle.rk_merge.specs.Several.{sum_to}
 use Rattle.rk_merge.proofs.Cuts.{behind_some, behind_none, before_suc, cut_within, cross, lt_or_le}
-use Rattle.rk_pointmerge.specs.Merges.{reach, step_most, turn_most, told_items, turn_at_last, turn_to}
-use Rattle.rk_pointmerge.specs.Moves.{IsWithin, IsStraight, Steps, Sought, ToLast, Turned, GoesOn, GoesBack, MeetsKey, points_upto}
-use Rattle.rk_pointmerge.proofs.Sums.{sum_to-at}
+use Rattle.rk_pointmerge.specs.Merges.{reach, step_most, turn_most, told_items, turn_at_last, turn_to, turning_reads, end_reads}
+use Rattle.rk_model.specs.Runs.{at_rest, IsWithin}
+use Rattle.rk_model.proofs.Runs.{rest_steps, rest_count}
+use Rattle.rk_pointmerge.specs.Moves.{IsStraight, Steps, Sought, ToLast, Turned, GoesOn, GoesBack, MeetsKey, points_upto, go_reads, reads_left}
+use Rattle.rk_merge.proofs.Sums.{sum_to-at, sum_to-more}
 
 pub on_ok_and : {T E P Q W : Type 0} (r : Result T E) → OnOk r P → OnOk r Q → (P → Q → W) → OnOk r W
 on_ok_and (Ok x) p q f = f p q
@@ -27,8 +30,8 @@ straight true s e = e
 straight false s e = straight_back s e
 
 -- a step reads no more than any step may
-pub next_most : (s : Seen Entry) → IsWithin s → TurnsAreBounded s → next_reads s ≤ step_most s
-next_most s within turns = go s.place within turns.next
+pub next_most : (s : Seen Entry) → IsWithin s → ReadsAreBounded s → next_reads s ≤ step_most s
+next_most s within bounded = go s.place within bounded.next
   where
     go : (p : Option ℕ) → IfSome p (λ i. i < s.count) → s.turn_to_next ≤ option_map_or s.turn_reads p 0 → option_map_or (λ i. s.step_reads (i + 1)) p 0 + s.turn_to_next ≤ step_most s
     go None h t = omega arith
@@ -37,8 +40,8 @@ next_most s within turns = go s.place within turns.next
         let two = sum_to-at s.turn_reads i s.count (omega arith) in
         omega arith
 
-pub prev_most : (s : Seen Entry) → IsWithin s → TurnsAreBounded s → prev_reads s ≤ step_most s
-prev_most s within turns = go s.place within turns.prev
+pub prev_most : (s : Seen Entry) → IsWithin s → ReadsAreBounded s → prev_reads s ≤ step_most s
+prev_most s within bounded = go s.place within bounded.prev
   where
     go : (p : Option ℕ) → IfSome p (λ i. i < s.count) → s.turn_to_prev ≤ option_map_or s.turn_reads p 0 → option_map_or s.step_reads p 0 + s.turn_to_prev ≤ step_most s
     go None h t = omega arith
@@ -47,9 +50,52 @@ prev_most s within turns = go s.place within turns.prev
         let two = sum_to-at s.turn_reads i s.count (omega arith) in
         omega arith
 
-pub step_below_turn : (ahead : Bool) (s : Seen Entry) → IsWithin s → TurnsAreBounded s → (if ahead then next_reads s else prev_reads s) ≤ turn_most s
-step_below_turn true s within turns = let le = next_most s within turns in omega arith
-step_below_turn false s within turns = let le = prev_most s within turns in omega arith
+-- what a turn reads by the move that it is
+pub step_turns : (ahead : Bool) (key : List ℕ) (s : Seen Entry) → is_some s.place ≡ true → ReadsAreBounded s → go_reads ahead s ≤ turning_reads ahead key s s.place
+step_turns ahead key s some bounded = go ahead s.place some bounded.next bounded.prev
+  where
+    go : (a : Bool) (p : Option ℕ) → is_some p ≡ true → s.turn_to_next ≤ option_map_or s.turn_reads p 0 → s.turn_to_prev ≤ option_map_or s.turn_reads p 0 → go_reads a (record s { place = p }) ≤ turning_reads a key s p
+    go a None e n m = cc
+    go true (Some i) e n m = omega arith
+    go false (Some i) e n m = omega arith
+
+pub none_turns : (ahead : Bool) (key : List ℕ) (s : Seen Entry) → is_some s.place ≡ false → (if ahead then s.seek_reads key else end_reads key s) ≤ turning_reads ahead key s s.place
+none_turns ahead key s none = go ahead s.place none
+  where
+    go : (a : Bool) (p : Option ℕ) → is_some p ≡ false → (if a then s.seek_reads key else end_reads key s) ≤ turning_reads a key s p
+    go a (Some i) e = cc
+    go true None e = omega arith
+    go false None e = omega arith
+
+pub turns_most : (ahead : Bool) (key : List ℕ) (s : Seen Entry) → IsWithin s → ReadsAreBounded s → turning_reads ahead key s s.place ≤ turn_most s
+turns_most ahead key s within bounded = go ahead s.place within
+  where
+    go : (a : Bool) (p : Option ℕ) → IfSome p (λ i. i < s.count) → turning_reads a key s p ≤ turn_most s
+    go true None w = let le = bounded.seek key in omega arith
+    go false None w = let le = bounded.seek key in omega arith
+    go true (Some i) w =
+        let one = sum_to-at s.step_reads (i + 1) s.count (omega arith) in
+        let two = sum_to-at s.turn_reads i s.count (omega arith) in
+        omega arith
+    go false (Some i) w =
+        let one = sum_to-at s.step_reads i s.count (omega arith) in
+        let two = sum_to-at s.turn_reads i s.count (omega arith) in
+        omega arith
+
+-- steps ahead from where a seek of the key leads read no more than those over the entries from the key on
+pub left_from : (key : List ℕ) (b u s : Seen Entry) → at_rest u ≡ at_rest b → at_rest s ≡ at_rest u → Sought key true u s → reads_left s ≤ sum_to b.step_reads b.count - sum_to b.step_reads (points_below key (told_items b))
+left_from key b u s before same sought = rw (← rest_steps u b before, ← rest_count u b before, ← ap told_items before, rest_steps s u same, rest_count s u same) (go u.held s.place sought.told)
+  where
+    go : (h : Option (List Entry)) (p : Option ℕ) → IfSome h (λ es. p ≡ behind_cut (points_below key es) (length es))
+        → sum_to u.step_reads u.count - sum_to u.step_reads (option_map_or (λ i. i) p u.count) ≤ sum_to u.step_reads u.count - sum_to u.step_reads (points_below key (unwrap_or h []))
+    go h None told = omega arith
+    go None (Some i) told = let le = sum_to-more u.step_reads 0 i (omega arith) in omega arith
+    go (Some es) (Some i) told = here es i told (lt_or_le (points_below key es) (length es))
+      where
+        here : (es : List Entry) (i : ℕ) → Some i ≡ behind_cut (points_below key es) (length es) → (points_below key es < length es) ⊎ (length es ≤ points_below key es)
+            → sum_to u.step_reads u.count - sum_to u.step_reads i ≤ sum_to u.step_reads u.count - sum_to u.step_reads (points_below key es)
+        here es i told (inl h) = let is : i ≡ points_below key es = cc (behind_some (points_below key es) (length es) h) in rw is (omega arith)
+        here es i told (inr h) = cc (behind_none (points_below key es) (length es) h)
 
 pub none_behind : (n len : ℕ) → is_some (behind_cut n len) ≡ false → len ≤ n
 none_behind n len none = go (lt_or_le n len)
@@ -94,8 +140,8 @@ turn_last t n (Some i) e q le = let h = last_turn t n i e q in omega arith
 
 pub last_walked : (key : List ℕ) (b s u v t : Seen Entry) (more : ℕ) → s.held ≡ b.held → u.held ≡ b.held → v.held ≡ b.held → t.held ≡ b.held → Sought key true b s → is_some s.place ≡ true
     → IfSome s.held (λ es. IfSome s.place (λ i. i < length es → i + more + 1 ≡ length es))
-    → Sought key true u v → IfSome v.held (λ es. IfSome v.place (λ i. i < length es → t.place ≡ behind_cut (i + more) (length es))) → TurnsAreBounded t → IsWithin t → ToLast key b t
-last_walked key b s u v t more hs hu hv ht from some count again walk turns within =
+    → Sought key true u v → IfSome v.held (λ es. IfSome v.place (λ i. i < length es → t.place ≡ behind_cut (i + more) (length es))) → ReadsAreBounded t → IsWithin t → ToLast key b t
+last_walked key b s u v t more hs hu hv ht from some count again walk bounded within =
     record { told = go b.held s.held u.held v.held hs hu hv from.told count again.told walk ht; within = within }
   where
     go : (h hs hu hv : Option (List Entry)) → hs ≡ h → hu ≡ h → hv ≡ h → IfSome h (λ es. s.place ≡ behind_cut (points_below key es) (length es))
@@ -123,7 +169,7 @@ last_walked key b s u v t more hs hu hv ht from some count again walk turns with
         let all : suc (n + more) ≡ length es = omega arith in
         let place : t.place ≡ before_cut (length es) = w' ∙ behind_some (n + more) (length es3) fits ∙ sym (before_suc (n + more)) ∙ ap before_cut all in
         let told : told_items t ≡ es = ap (λ h. unwrap_or h []) ht in
-        (place, turn_last t (length es) t.place (ap length told) place turns.prev)
+        (place, turn_last t (length es) t.place (ap length told) place bounded.prev)
 
 -- a step, a seek and a way to the end as the turn that they are
 pub turned_step : (key : List ℕ) (ahead : Bool) (s t : Seen Entry) → is_some s.place ≡ true → Steps ahead s t → Turned key ahead s t

@@ -1,30 +1,30 @@
 -- Places among what is visible.
 use Rattle.std.proofs.Common.{◌≡◌, ℕ, ◌+◌, ◌^◌, ◌<◌, ◌≤◌, length, Bool, true, false, not, List, Option, Some, None, is_some, IfSome, IsTrue, Ok, Err, slice_get, option_map, refl, ap, sym, subst, ◌∙◌, arith}
+use Rattle.std.proofs.lemmas.Bool.{not-true, not-false}
 use Rattle.std.specs.Ordering.{is_lt, is_eq}
 use Rattle.rk_key.specs.Keys.{key_cmp}
 use Rattle.rk_key.specs.Laws.{key_cmp-total}
 use Rattle.rk_key.proofs.TotalOrders.{lt_itself, eq_is}
 use Rattle.rk_outside.specs.declared.error.SourceError.{SourceError}
-use Rattle.rk_model.specs.Sources.{Seen, Same, Goes, IsHere, TurnsAreBounded, are_points, ascends, entry_cmp, count_before, item_at, op_key, points_below}
+use Rattle.rk_model.specs.Sources.{Seen, Same, Goes, IsHere, ReadsAreBounded, are_points, ascends, entry_cmp, count_before, item_at, op_key, points_below}
 use Rattle.rk_model.specs.declared.op.Entry.{Entry}
 use Rattle.rk_merge.specs.Unions.{Among}
 use Rattle.rk_merge.specs.Cuts.{place_near, cut_at, cut_past, step_place, is_beyond}
 use Rattle.rk_merge.proofs.Lists.{and_parts, among_filter, filter_among, filter_ascends}
 use Rattle.rk_merge.proofs.Cuts.{nearest_cut, near_rank, step_rank, rank_within, rank_item, cut_agree, cut_all, cut_none, behind_none, falls_at, slice_rank, tied_same}
-use Rattle.rk_pointmerge.specs.Merges.{comes_before, rank, sum_to}
+use Rattle.rk_pointmerge.specs.Merges.{comes_before, rank}
 use Rattle.rk_pointmerge.proofs.Turns.{next_most, prev_most}
-use Rattle.rk_pointmerge.specs.Moves.{go_reads, at_rest, IsWithin, Steps, Sought, MovesOn}
-use Rattle.rk_pointmerge.specs.Views.{is_visible, visible, viewed, viewed_place, viewed_count, view_most, back_most, marked, Views, Looks, Falls, Lands, StartsAhead, Finds}
+use Rattle.rk_model.specs.Runs.{at_rest, IsWithin}
+use Rattle.rk_pointmerge.specs.Moves.{go_reads, Steps, Sought, MovesOn}
+use Rattle.rk_pointmerge.specs.Views.{is_visible, visible, viewed, viewed_place, viewed_count, view_most, back_most, marked, StandsAhead, Views, Looks, Falls, Lands, StartsAhead, Finds}
 use Rattle.rk_pointmerge.proofs.Bests.{entry_total}
+use Rattle.rk_pointmerge.proofs.Gaps.{Up, of_both, upward, with_both}
 use Rattle.rk_pointmerge.proofs.Keys.{falls_below}
 use Rattle.rk_pointmerge.proofs.Sights.{key_sym, squeeze, visible_parts}
 use Rattle.rk_pointmerge.proofs.Arrivals.{moves_told}
 
-abbrev Up : List Entry → Type 0
-Up es = ascends (λ a b. is_lt (entry_cmp a b)) es ≡ true
-
 module _ (n : ℕ) (es : List Entry) (up : ascends (λ a b. is_lt (entry_cmp a b)) es ≡ true) where
-  visible_up : ascends (λ a b. is_lt (entry_cmp a b)) (visible n es) ≡ true
+  pub visible_up : ascends (λ a b. is_lt (entry_cmp a b)) (visible n es) ≡ true
   visible_up = filter_ascends entry_total (is_visible n es) es up
 
   -- the nearest visible entry beyond a cut is what the list of visible entries shows there
@@ -68,18 +68,10 @@ module _ (n : ℕ) (es : List Entry) (up : ascends (λ a b. is_lt (entry_cmp a b
     split = λ f g m k p q old same. split f g m k p q same (comes_before f c) refl;
   }
     where
-      not_true : (b : Bool) → not b ≡ true → b ≡ false
-      not_true true w = cc
-      not_true false w = refl
-
-      not_false : (b : Bool) → not b ≡ false → b ≡ true
-      not_false true w = refl
-      not_false false w = cc
-
       split : (f g : Entry) → Among f es → Among g es → not (comes_before c f) ≡ true → not (comes_before c g) ≡ false → is_eq (key_cmp (op_key f.op) (op_key g.op)) ≡ true → (b : Bool) → comes_before f c ≡ b → is_eq (key_cmp (op_key g.op) (op_key c.op)) ≡ true
-      split f g m k p q same true h = key_sym (op_key c.op) (op_key g.op) (squeeze f c g h (not_false (comes_before c g) q) same)
+      split f g m k p q same true h = key_sym (op_key c.op) (op_key g.op) (squeeze f c g h (not-false (comes_before c g) q) same)
       split f g m k p q same false h =
-          let one : f ≡ c = tied_same entry_total es up f c m among h (not_true (comes_before c f) p) in
+          let one : f ≡ c = tied_same entry_total es up f c m among h (not-true (comes_before c f) p) in
           key_sym (op_key c.op) (op_key g.op) (ap (λ x. is_eq (key_cmp (op_key x.op) (op_key g.op))) (sym one) ∙ same)
 
   -- the entry at a place that is visible
@@ -102,25 +94,13 @@ pub viewed_same : (s t : Seen Entry) (n : ℕ) (m k : Option ℕ) → at_rest t 
 viewed_same s t n m k e = record {
   held_is = ap (λ r. option_map (visible n) r.held) e;
   count_is = ap (λ r. viewed_count r.held n) e;
-  seek_is = ap view_most e;
-  step_is = ap (λ r. λ (gap : ℕ). view_most r) e;
+  seek_is = ap (λ r. (viewed r n None).seek_reads) e;
+  most_is = ap (λ r. (viewed r n None).seek_most) e;
+  step_is = ap (λ r. (viewed r n None).step_reads) e;
   turn_is = refl;
 }
 
 -- what a seek among the sources and a way on from there find
-both : (h h' : Option (List Entry)) (P Q R : List Entry → Type 0) → h' ≡ h → IfSome h P → IfSome h' Q → ((es : List Entry) → P es → Q es → R es) → IfSome h R
-both None h' P Q R e p q f = tt
-both (Some es) None P Q R e p q f = cc
-both (Some es) (Some es') P Q R e p q f = let same : es' ≡ es = cc in f es p (subst Q same q)
-
-pair : (h : Option (List Entry)) (P Q : List Entry → Type 0) → IfSome h P → IfSome h Q → IfSome h (λ es. P es × Q es)
-pair None P Q p q = tt
-pair (Some es) P Q p q = (p, q)
-
-upward : (h : Option (List Entry)) → IfSome h (λ xs. IsTrue (are_points xs)) → IfSome h Up
-upward None s = tt
-upward (Some es) s = (and_parts _ _ s).1
-
 lands_from : (ahead : Bool) (n : ℕ) (key : Option (List ℕ)) (s t : Seen Entry) → Finds ahead n key s t → IfSome s.held (λ es. (u : Entry → Bool) → Falls u → s.place ≡ place_near ahead (count_before u es) (length es) → (IsTrue ahead → StartsAhead n es u key) → Lands ahead n es u t.place)
 lands_from true n key s t finds = go s.held finds
   where
@@ -136,13 +116,18 @@ lands_from false n key s t finds = go s.held finds
     go (Some es) w = λ u falls at starts. w u falls at
 
 -- a place that was landed on is that of a visible entry
-landed : (n : ℕ) (b t : Seen Entry) (there : Bool) → IsWithin t → there ≡ is_some t.place → t.held ≡ b.held → IfSome b.held (λ es. (ahead : Bool) × (u : Entry → Bool) × Lands ahead n es u t.place) → IsTrue there → Views t n
-landed n b t there within is held lands w = record {
+landed : (n : ℕ) (b t : Seen Entry) (there : Bool) → IsWithin t → StandsAhead t → there ≡ is_some t.place → t.held ≡ b.held → IfSome b.held (λ es. (ahead : Bool) × (u : Entry → Bool) × Lands ahead n es u t.place) → IsTrue there → Views t n
+landed n b t there within stands is held lands w = record {
   placed = sym is ∙ w;
+  ahead = stood t.place (sym is ∙ w) stands;
   within = within;
   told = go t.held b.held (sym held) lands;
 }
   where
+    stood : (p : Option ℕ) → is_some p ≡ true → IfSome p (λ i. t.turn_to_next ≡ 0) → t.turn_to_next ≡ 0
+    stood None some e = cc
+    stood (Some i) some e = e
+
     vis : (es : List Entry) (a : Bool) (u : Entry → Bool) (p : Option ℕ) → Lands a n es u p → IfSome (item_at es p) (λ e. is_visible n es e ≡ true)
     vis es a u None lands = tt
     vis es a u (Some i) lands = subst (λ (o : Option Entry). IfSome o (λ e. is_visible n es e ≡ true)) (sym lands.1) lands.3
@@ -152,25 +137,25 @@ landed n b t there within is held lands w = record {
     go (Some es) None e w = cc
     go (Some es) (Some es') e w = let same : es' ≡ es = cc in let l = subst (λ (xs : List Entry). (ahead : Bool) × (u : Entry → Bool) × Lands ahead n xs u t.place) same w in vis es l.0 l.1 t.place l.2
 
-pub seek_looks : (b s t : Seen Entry) (n : ℕ) (key : List ℕ) (kept : Option (List ℕ)) (ahead there : Bool) → IfSome b.held (λ xs. IsTrue (are_points xs)) → s.held ≡ b.held → t.held ≡ b.held → kept ≡ None → Sought key ahead b s → Finds ahead n kept s t → IsWithin t → there ≡ is_some t.place
+pub seek_looks : (b s t : Seen Entry) (n : ℕ) (key : List ℕ) (kept : Option (List ℕ)) (ahead there : Bool) → IfSome b.held (λ xs. IsTrue (are_points xs)) → s.held ≡ b.held → t.held ≡ b.held → kept ≡ None → Sought key ahead b s → Finds ahead n kept s t → IsWithin t → StandsAhead t → there ≡ is_some t.place
     → Looks n b t there (λ es. place_near ahead (points_below key es) (length es))
-seek_looks b s t n key kept ahead there sorted hs ht none sought finds within is = record {
-  views = landed n b t there within is ht (both b.held b.held _ Up _ refl lands (upward b.held sorted) (λ es l up. (ahead, (λ e. is_lt (key_cmp (op_key e.op) key)), l)));
-  told = both b.held b.held _ Up _ refl lands (upward b.held sorted) (λ es l up m. ap (λ o. viewed_place (Some es) n t.place (marked o m)) is ∙ lands_view n es up ahead (λ e. is_lt (key_cmp (op_key e.op) key)) t.place m (falls_below key) l);
+seek_looks b s t n key kept ahead there sorted hs ht none sought finds within stands is = record {
+  views = landed n b t there within stands is ht (of_both b.held b.held _ Up _ refl lands (upward b.held sorted) (λ es l up. (ahead, (λ e. is_lt (key_cmp (op_key e.op) key)), l)));
+  told = of_both b.held b.held _ Up _ refl lands (upward b.held sorted) (λ es l up m. ap (λ o. viewed_place (Some es) n t.place (marked o m)) is ∙ lands_view n es up ahead (λ e. is_lt (key_cmp (op_key e.op) key)) t.place m (falls_below key) l);
 }
   where
     lands : IfSome b.held (λ es. Lands ahead n es (λ e. is_lt (key_cmp (op_key e.op) key)) t.place)
-    lands = both b.held s.held (λ es. Up es × (s.place ≡ place_near ahead (points_below key es) (length es)))
+    lands = of_both b.held s.held (λ es. Up es × (s.place ≡ place_near ahead (points_below key es) (length es)))
         (λ es. (u : Entry → Bool) → Falls u → s.place ≡ place_near ahead (count_before u es) (length es) → (IsTrue ahead → StartsAhead n es u kept) → Lands ahead n es u t.place)
         (λ es. Lands ahead n es (λ e. is_lt (key_cmp (op_key e.op) key)) t.place) hs
-        (both b.held b.held Up (λ es. s.place ≡ place_near ahead (points_below key es) (length es)) (λ es. Up es × (s.place ≡ place_near ahead (points_below key es) (length es))) refl (upward b.held sorted) sought.told (λ es p q. (p, q)))
+        (of_both b.held b.held Up (λ es. s.place ≡ place_near ahead (points_below key es) (length es)) (λ es. Up es × (s.place ≡ place_near ahead (points_below key es) (length es))) refl (upward b.held sorted) sought.told (λ es p q. (p, q)))
         (lands_from ahead n kept s t finds)
         (λ es p q. q (λ e. is_lt (key_cmp (op_key e.op) key)) (falls_below key) p.1 (λ w. rw none (seek_starts n es p.0 key)))
 
 pub step_looks : (b s t : Seen Entry) (n : ℕ) (kept : Option (List ℕ)) (c : Entry) (item : Option Entry) (ahead there : Bool) → IfSome b.held (λ xs. IsTrue (are_points xs)) → s.held ≡ b.held → t.held ≡ b.held → Views b n → IfSome b.held (λ xs. item ≡ item_at xs b.place) → item ≡ Some c → kept ≡ Some (op_key c.op)
-    → Steps ahead b s → Finds ahead n kept s t → IsWithin t → there ≡ is_some t.place → Looks n b t there (λ es. step_place ahead es (viewed_place b.held n b.place (Some 0)))
-step_looks b s t n kept c item ahead there sorted hs ht views here isc key steps finds within is = record {
-  views = landed n b t there within is ht (both b.held b.held Landing Up _ refl lands (upward b.held sorted) (λ es l up. (ahead, cut_past ahead comes_before c, l.3)));
+    → Steps ahead b s → Finds ahead n kept s t → IsWithin t → StandsAhead t → there ≡ is_some t.place → Looks n b t there (λ es. step_place ahead es (viewed_place b.held n b.place (Some 0)))
+step_looks b s t n kept c item ahead there sorted hs ht views here isc key steps finds within stands is = record {
+  views = landed n b t there within stands is ht (of_both b.held b.held Landing Up _ refl lands (upward b.held sorted) (λ es l up. (ahead, cut_past ahead comes_before c, l.3)));
   told = place b.held refl lands;
 }
   where
@@ -195,9 +180,9 @@ step_looks b s t n kept c item ahead there sorted hs ht views here isc key steps
             (up, at.0, shown, find (cut_past ahead comes_before c) (falls_at entry_total (not ahead) c) (step ∙ step_under n es up ahead i c found) (starts ahead at.0 shown), here)
 
     lands : IfSome b.held Landing
-    lands = both b.held s.held (λ es. Up es × (IfSome (item_at es b.place) (λ e. is_visible n es e ≡ true) × ((item ≡ item_at es b.place) × (s.place ≡ step_place ahead es b.place))))
+    lands = of_both b.held s.held (λ es. Up es × (IfSome (item_at es b.place) (λ e. is_visible n es e ≡ true) × ((item ≡ item_at es b.place) × (s.place ≡ step_place ahead es b.place))))
         (λ es. (u : Entry → Bool) → Falls u → s.place ≡ place_near ahead (count_before u es) (length es) → (IsTrue ahead → StartsAhead n es u kept) → Lands ahead n es u t.place) Landing hs
-        (pair b.held Up _ (upward b.held sorted) (pair b.held (λ es. IfSome (item_at es b.place) (λ e. is_visible n es e ≡ true)) _ views.told (pair b.held (λ es. item ≡ item_at es b.place) (λ es. s.place ≡ step_place ahead es b.place) here steps.told)))
+        (with_both b.held Up _ (upward b.held sorted) (with_both b.held (λ es. IfSome (item_at es b.place) (λ e. is_visible n es e ≡ true)) _ views.told (with_both b.held (λ es. item ≡ item_at es b.place) (λ es. s.place ≡ step_place ahead es b.place) here steps.told)))
         (lands_from ahead n kept s t finds) (λ es p q. facts es p.0 p.1.0 p.1.1.0 p.1.1.1 q)
 
     place : (h : Option (List Entry)) → b.held ≡ h → IfSome h Landing → IfSome h (λ es. (m : ℕ) → viewed_place (Some es) n t.place (marked there m) ≡ step_place ahead (visible n es) (viewed_place b.held n b.place (Some 0)))
@@ -208,25 +193,19 @@ step_looks b s t n kept c item ahead there sorted hs ht views here isc key steps
         ∙ sym (step_view n es l.0 ahead c l.1 l.2) ∙ sym (ap (step_place ahead (visible n es)) old)
 
 -- the reads of a step, and of the way on from it
-pub go_most : (ahead : Bool) (s : Seen Entry) → IsWithin s → TurnsAreBounded s → go_reads ahead s ≤ view_most s
-go_most true s within turns = let le = next_most s within turns in omega arith
-go_most false s within turns = let le = prev_most s within turns in omega arith
+pub go_most : (ahead : Bool) (s : Seen Entry) → IsWithin s → ReadsAreBounded s → go_reads ahead s ≤ view_most s
+go_most true s within bounded = let le = next_most s within bounded in omega arith
+go_most false s within bounded = let le = prev_most s within bounded in omega arith
 
-pub find_most : (ahead : Bool) (b s : Seen Entry) → at_rest s ≡ at_rest b → IsWithin b → TurnsAreBounded b → go_reads ahead b + back_most s ≤ view_most b
-find_most ahead b s same within turns = go ahead
-  where
-    seek : s.seek_reads ≡ b.seek_reads
-    seek = ap (λ x. x.seek_reads) same
+way_most : (b s : Seen Entry) → at_rest s ≡ at_rest b → back_most s ≡ back_most b
+way_most b s same = ap back_most same
 
-    steps : sum_to s.step_reads s.count ≡ sum_to b.step_reads b.count
-    steps = ap (λ x. sum_to x.step_reads x.count) same
+pub find_most : (ahead : Bool) (b s : Seen Entry) → at_rest s ≡ at_rest b → IsWithin b → ReadsAreBounded b → go_reads ahead b + back_most s ≤ view_most b
+find_most true b s same within bounded = let le = next_most b within bounded in let way = way_most b s same in omega arith
+find_most false b s same within bounded = let le = prev_most b within bounded in let way = way_most b s same in omega arith
 
-    turned : sum_to s.turn_reads s.count ≡ sum_to b.turn_reads b.count
-    turned = ap (λ x. sum_to x.turn_reads x.count) same
-
-    go : (a : Bool) → go_reads a b + back_most s ≤ view_most b
-    go true = let le = next_most b within turns in let x = seek in let y = steps in let z = turned in omega arith
-    go false = let le = prev_most b within turns in let x = seek in let y = steps in let z = turned in omega arith
+pub seek_most : (key : List ℕ) (b s : Seen Entry) → at_rest s ≡ at_rest b → ReadsAreBounded b → b.seek_reads key + back_most s ≤ view_most b
+seek_most key b s same bounded = let le = bounded.seek key in let way = way_most b s same in omega arith
 
 -- what is visible as a source
 stands_in : (s : Seen Entry) (n m : ℕ) → IfSome s.held (λ xs. IsTrue (are_points xs)) → Views s n → m < 2 ^ 64 → IfSome (viewed_place s.held n s.place (Some m)) (λ i. i < viewed_count s.held n)

@@ -3,18 +3,21 @@ use Rattle.std.proofs.Common.{◌≡◌, ℕ, ◌+◌, ◌<◌, ◌≤◌, lengt
 use Rattle.rk_model.specs.Sources.{Seen, behind_cut, next_place, next_reads}
 use Rattle.rk_model.specs.declared.op.Entry.{Entry}
 use Rattle.rk_merge.proofs.Cuts.{behind_some, behind_none, lt_or_le}
-use Rattle.rk_pointmerge.specs.Merges.{reach, sum_to}
-use Rattle.rk_pointmerge.specs.Moves.{IsWithin, Steps, GoesOn}
-use Rattle.rk_pointmerge.proofs.Sums.{sum_to-step, sum_to-more}
+use Rattle.rk_merge.specs.Several.{sum_to}
+use Rattle.rk_pointmerge.specs.Merges.{reach}
+use Rattle.rk_model.specs.Runs.{IsWithin}
+use Rattle.rk_pointmerge.specs.Moves.{Steps, GoesOn, reads_left}
+use Rattle.rk_merge.proofs.Sums.{sum_to-step, sum_to-more}
 
 -- so many steps from a place of the list
 pub record Walked (before now : Seen Entry) (steps : ℕ) : Type 0 where
   pub straight : now.turn_to_next ≡ 0
   pub within : IsWithin now
+  pub further : reach true before ≤ reach true now
   pub told : IfSome before.held (λ es. IfSome before.place (λ i. i < length es → (now.place ≡ behind_cut (i + steps) (length es)) × (i + steps ≤ length es)))
 
 pub walk_start : (b : Seen Entry) → b.turn_to_next ≡ 0 → IsWithin b → Walked b b 0
-walk_start b straight within = record { straight = straight; within = within; told = go b.held b.place }
+walk_start b straight within = record { straight = straight; within = within; further = omega arith; told = go b.held b.place }
   where
     go : (h : Option (List Entry)) (p : Option ℕ) → IfSome h (λ es. IfSome p (λ i. i < length es → (p ≡ behind_cut (i + 0) (length es)) × (i + 0 ≤ length es)))
     go None p = tt
@@ -32,9 +35,13 @@ pub walk_on : (b s t : Seen Entry) (k : ℕ) → s.held ≡ b.held → is_some s
 walk_on b s t k held some walked steps = record {
   straight = steps.straight;
   within = steps.within;
+  further = further;
   told = go b.held s.held b.place held walked.told steps.told;
 }
   where
+    further : reach true b ≤ reach true t
+    further = let on = steps.rises in let le = walked.further in omega arith
+
     go : (h h' : Option (List Entry)) (p : Option ℕ) → h' ≡ h → IfSome h (λ es. IfSome p (λ i. i < length es → (s.place ≡ behind_cut (i + k) (length es)) × (i + k ≤ length es)))
         → IfSome h' (λ es. t.place ≡ next_place es s.place) → IfSome h (λ es. IfSome p (λ i. i < length es → (t.place ≡ behind_cut (i + (k + 1)) (length es)) × (i + (k + 1) ≤ length es)))
     go None h' p e told step = tt
@@ -78,10 +85,6 @@ walked_out b s k walked none = go b.held b.place walked.told
         end es i was (inl h) = let e = ap is_some (behind_some (i + (k + 1)) (length es) h) in let f = ap is_some was.0 in cc
         end es i was (inr h) = let le = was.1 in omega arith
 
--- the walk so far has read the gaps up to where the source stands
-pub reads_start : (b t : Seen Entry) → is_some b.place ≡ true → b.turn_to_next ≡ 0 → GoesOn true b t → next_reads b ≤ sum_to b.step_reads (reach true t)
-reads_start b t some straight on = let h = reads_on b.step_reads b t refl some straight on in omega arith
-
 pub reads_end : (b s : Seen Entry) → s.count ≡ b.count → IsWithin s → sum_to b.step_reads (reach true s) ≤ sum_to b.step_reads b.count
 reads_end b s e within = let le = reach_within s within in sum_to-more b.step_reads (reach true s) b.count (omega arith)
 
@@ -95,6 +98,25 @@ reads_next b s e is some within straight = go s.place some within
         let step = sum_to-step b.step_reads i b.count (omega arith) in
         let same : s.step_reads (i + 1) ≡ b.step_reads (i + 1) = ap (λ f. f (i + 1)) is in
         rw (same, straight) (omega arith)
+
+-- what the gaps between two places may read; a walk reads no more
+abbrev pub walk_reads : Seen Entry → Seen Entry → ℕ
+walk_reads b s = sum_to b.step_reads (reach true s) - sum_to b.step_reads (reach true b)
+
+pub walk_more : (b s t : Seen Entry) (k : ℕ) → s.step_reads ≡ b.step_reads → is_some s.place ≡ true → Walked b s k → Steps true s t → walk_reads b s + next_reads s ≤ walk_reads b t
+walk_more b s t k is some walked steps =
+    let on = reads_on b.step_reads s t is some walked.straight steps.rises in
+    let le = sum_to-more b.step_reads (reach true b) (reach true s) walked.further in
+    omega arith
+
+pub walk_next : (b s : Seen Entry) (k : ℕ) → s.count ≡ b.count → s.step_reads ≡ b.step_reads → is_some s.place ≡ true → Walked b s k → walk_reads b s + next_reads s ≤ reads_left b
+walk_next b s k count is some walked =
+    let next = reads_next b s count is some walked.within walked.straight in
+    let le = sum_to-more b.step_reads (reach true b) (reach true s) walked.further in
+    omega arith
+
+pub walk_end : (b s : Seen Entry) (k : ℕ) → s.count ≡ b.count → Walked b s k → walk_reads b s ≤ reads_left b
+walk_end b s k count walked = let end = reads_end b s count walked.within in omega arith
 
 pub fewer_left : (s t : Seen Entry) → t.count ≡ s.count → is_some s.place ≡ true → IsWithin s → GoesOn true s t → t.count - reach true t < s.count - reach true s
 fewer_left s t e some within on = go s.place some within on

@@ -1,13 +1,14 @@
 -- What a merge of sources of points is: the union of what they hold, and the place of the entry that is the
 -- nearest of theirs in the direction in which they stand.
-use Rattle.std.specs.Prelude.{ℕ, zero, suc, ◌+◌, ◌-◌, ◌*◌, nat_lt, nat_eq, Bool, true, List, [], ◌∷◌, length, map, if◌then◌else◌, Option, Some, None, is_some, unwrap_or, slice_get, option_map, option_and_then}
+use Rattle.std.specs.Prelude.{ℕ, ◌+◌, ◌-◌, ◌*◌, nat_lt, nat_eq, Bool, true, false, not, List, [], length, map, if◌then◌else◌, Option, Some, None, is_some, unwrap_or, slice_get, option_map, option_and_then}
 use Rattle.std.specs.List.{list_all}
 use Rattle.std.specs.Option.{option_map_or}
 use Rattle.std.specs.Ordering.{is_lt}
-use Rattle.rk_model.specs.Sources.{Seen, count_before, before_cut, item_at, entry_cmp, sound_points}
+use Rattle.rk_model.specs.Sources.{Seen, count_before, before_cut, item_at, entry_cmp, op_key, points_below, sound_points}
 use Rattle.rk_model.specs.declared.op.Entry.{Entry}
 use Rattle.rk_merge.specs.Unions.{union}
-use Rattle.rk_merge.specs.Cuts.{cut_past}
+use Rattle.rk_merge.specs.Cuts.{cut_past, place_near}
+use Rattle.rk_merge.specs.Several.{sum_to, total}
 
 abbrev pub comes_before : Entry → Entry → Bool
 comes_before e f = is_lt (entry_cmp e f)
@@ -23,21 +24,12 @@ told_items s = unwrap_or s.held []
 abbrev pub shown : Seen Entry → Option Entry
 shown s = item_at (told_items s) s.place
 
--- the sum of a number of each
-abbrev pub total : {S : Type 0} → (S → ℕ) → List S → ℕ
-total f [] = 0
-total f (s ∷ ss) = f s + total f ss
-
-abbrev pub sum_to : (ℕ → ℕ) → ℕ → ℕ
-sum_to f zero = f 0
-sum_to f (suc n) = sum_to f n + f (suc n)
-
 -- what any one step may read, and what any change of direction may
 abbrev pub step_most : Seen Entry → ℕ
 step_most s = sum_to s.step_reads s.count + sum_to s.turn_reads s.count
 
 abbrev pub turn_most : Seen Entry → ℕ
-turn_most s = 3 * s.seek_reads + 2 * sum_to s.step_reads s.count + step_most s
+turn_most s = 2 * s.seek_most + 2 * sum_to s.step_reads s.count + step_most s
 
 -- how far a source has come, where it stands ahead, and where it stands back
 abbrev pub reach : Bool → Seen Entry → ℕ
@@ -59,6 +51,22 @@ turn_at_last s i = if nat_eq (i + 1) (length (told_items s)) then s.turn_reads i
 
 abbrev pub prev_reads_from : Entry → Seen Entry → ℕ
 prev_reads_from e s = if has_entry e s then s.step_reads (rank e (told_items s)) + turn_at_last s (rank e (told_items s)) else 0
+
+-- what leads a source from beyond its end to its last entry, which is not above the key: two seeks, and twice the
+-- steps over its entries from the key on
+abbrev pub end_reads : List ℕ → Seen Entry → ℕ
+end_reads key s = 2 * s.seek_reads key + 2 * (sum_to s.step_reads s.count - sum_to s.step_reads (points_below key (told_items s)))
+
+-- what a source reads that turns at a place: the gap that it crosses, and the turn. Where it has no entry it seeks
+-- the key, or is led to its last one.
+abbrev pub turning_reads : Bool → List ℕ → Seen Entry → Option ℕ → ℕ
+turning_reads ahead key s place =
+    option_map_or (λ i. s.step_reads (if ahead then i + 1 else i) + s.turn_reads i) place (if ahead then s.seek_reads key else end_reads key s)
+
+-- and what it reads that turns beside an entry, which need not be its own: it goes to the entry's other side, ahead
+-- from its last one up to there, or back from its first one from there on
+abbrev pub turn_from : Bool → Entry → Seen Entry → ℕ
+turn_from ahead e s = turning_reads ahead (op_key e.op) s (place_near (not ahead) (count_before (cut_past ahead comes_before e) (told_items s)) (length (told_items s)))
 
 -- the sources, that of them which has the entry, and the direction in which they stand
 pub record Merging (S : Type 0) : Type 0 where
@@ -93,19 +101,22 @@ merged_steps seen (Some es) ss gap =
     option_map_or (λ e. total (λ s. next_reads_from e (seen s)) ss) (item_at es (before_cut gap)) 0 + option_map_or (λ e. total (λ s. prev_reads_from e (seen s)) ss) (slice_get es gap) 0
 merged_steps seen None ss gap = total (λ s. step_most (seen s)) ss
 
-abbrev pub merged_turn : {S : Type 0} → (S → Seen Entry) → List S → ℕ
-merged_turn seen ss = total (λ s. turn_most (seen s)) ss
+-- a turn ahead or back at a place reads at each source what its turn from the entry there does
+abbrev pub merged_turn : {S : Type 0} → Bool → (S → Seen Entry) → Option (List Entry) → List S → ℕ → ℕ
+merged_turn ahead seen (Some es) ss place = option_map_or (λ e. total (λ s. turn_from ahead e (seen s)) ss) (slice_get es place) 0
+merged_turn ahead seen None ss place = total (λ s. turn_most (seen s)) ss
 
 abbrev pub merged : {S : Type 0} → (S → Seen Entry) → List S → Option ℕ → Bool → Seen Entry
 merged seen ss at ahead = record {
   held = united seen ss;
   place = merged_place seen ss at ahead;
   count = merged_count seen (united seen ss) ss;
-  seek_reads = total (λ s. (seen s).seek_reads) ss;
+  seek_reads = λ key. total (λ s. (seen s).seek_reads key) ss;
+  seek_most = total (λ s. (seen s).seek_most) ss;
   step_reads = merged_steps seen (united seen ss) ss;
-  turn_reads = λ place. merged_turn seen ss;
-  turn_to_next = if ahead then 0 else option_map_or (λ place. merged_turn seen ss) (merged_place seen ss at ahead) 0;
-  turn_to_prev = if ahead then option_map_or (λ place. merged_turn seen ss) (merged_place seen ss at ahead) 0 else 0;
+  turn_reads = λ place. merged_turn true seen (united seen ss) ss place + merged_turn false seen (united seen ss) ss place;
+  turn_to_next = if ahead then 0 else option_map_or (merged_turn true seen (united seen ss) ss) (merged_place seen ss at ahead) 0;
+  turn_to_prev = if ahead then option_map_or (merged_turn false seen (united seen ss) ss) (merged_place seen ss at ahead) 0 else 0;
 }
 
 abbrev pub merging_seen : {S : Type 0} → (S → Seen Entry) → Merging S → Seen Entry

@@ -1,24 +1,14 @@
 -- How the sources of a merge stand, and how they move.
-use Rattle.std.specs.Prelude.{◌≡◌, ℕ, ◌<◌, ◌≤◌, Bool, true, false, not, List, length, map, All, if◌then◌else◌, Option, Some, None, is_some, IfSome, Result, MatchOption, slice_index_or, IsTrue, IsFalse}
+use Rattle.std.specs.Prelude.{◌≡◌, ℕ, ◌-◌, ◌<◌, ◌≤◌, Bool, true, false, not, List, length, All, if◌then◌else◌, Option, Some, None, is_some, IfSome, MatchOption, slice_index_or, IsTrue, IsFalse}
 use Rattle.std.specs.Option.{option_map_or}
 use Rattle.std.specs.Ordering.{is_lt}
 use Rattle.rk_key.specs.Keys.{key_cmp}
-use Rattle.rk_outside.specs.Causes.{HasSourceCause, RaisesAtMost}
-use Rattle.rk_outside.specs.declared.error.SourceError.{SourceError}
 use Rattle.rk_model.specs.Sources.{Seen, count_before, op_key, points_below, before_cut, next_reads, prev_reads, Rises}
 use Rattle.rk_model.specs.declared.op.Entry.{Entry}
 use Rattle.rk_merge.specs.Cuts.{place_near, cut_at, cut_past, is_nearer, step_place}
-use Rattle.rk_pointmerge.specs.Merges.{comes_before, told_items, shown, united, merged_place, come, total, reach, turn_to, turn_at_last, turn_most}
-
--- what no call changes of a source
-abbrev pub at_rest : Seen Entry → Seen Entry
-at_rest s = record s { place = None; turn_to_next = 0; turn_to_prev = 0 }
-
-abbrev pub all_rest : {S : Type 0} → (S → Seen Entry) → List S → List (Seen Entry)
-all_rest seen ss = map (λ s. at_rest (seen s)) ss
-
-abbrev pub IsWithin : Seen Entry → Type 0
-IsWithin s = IfSome s.place (λ i. i < s.count)
+use Rattle.rk_model.specs.Runs.{IsWithin}
+use Rattle.rk_merge.specs.Several.{sum_to, total}
+use Rattle.rk_pointmerge.specs.Merges.{comes_before, told_items, shown, united, merged_place, come, reach, turn_to, turn_at_last, turning_reads}
 
 -- the source stands next to the cut that a test makes, ahead of it or back
 abbrev pub StandsNear : Bool → (Entry → Bool) → Seen Entry → Type 0
@@ -84,14 +74,16 @@ abbrev pub Placed : Bool → List ℕ → Bool → Seen Entry → Seen Entry →
 Placed false key ahead before now = Sought key ahead before now
 Placed true key ahead before now = Turned key ahead before now
 
-abbrev pub placed_most : Bool → Seen Entry → ℕ
-placed_most turning s = if turning then turn_most s else s.seek_reads
+-- what a step of a source may read, ahead or back
+abbrev pub go_reads : Bool → Seen Entry → ℕ
+go_reads ahead s = if ahead then next_reads s else prev_reads s
 
--- What a call leaves of what it may not change, of the count of faults and of that of reads.
-pub record Runs {X A T : Type 0} (before now : X) (held : Option A) (f f' r r' most : ℕ) (result : Result T SourceError) : Type 0 where
-  pub same : now ≡ before
-  pub cause : HasSourceCause held f f' result
-  pub reads : RaisesAtMost r r' most
+-- what steps ahead may still read, all together
+abbrev pub reads_left : Seen Entry → ℕ
+reads_left s = sum_to s.step_reads s.count - sum_to s.step_reads (reach true s)
+
+abbrev pub placed_most : Bool → List ℕ → Bool → Seen Entry → ℕ
+placed_most turning key ahead s = if turning then turning_reads ahead key s s.place else s.seek_reads key
 
 -- an entry is nearer than the nearest so far, which there may not be
 abbrev pub beats : Bool → Option Entry → Option Entry → Bool
@@ -112,10 +104,6 @@ pub record Left {S : Type 0} (seen : S → Seen Entry) (olds news : List S) (at 
   pub told : IfSome (united seen olds) (λ es. (d : S) → IfSome (shown (seen (slice_index_or olds at d))) (λ e. All (λ s. StandsNear ahead (cut_past ahead comes_before e) (seen s) × IsStraight ahead (seen s)) news))
   pub further : IsTrue ahead → come seen olds was < total (λ s. reach true (seen s)) news
   pub less : IsFalse ahead → total (λ s. reach false (seen s)) news ≤ come seen olds was
-
--- what a step of a source may read, ahead or back
-abbrev pub go_reads : Bool → Seen Entry → ℕ
-go_reads ahead s = if ahead then next_reads s else prev_reads s
 
 -- the sources have come to stand where one of them shows the entry at a place of the union, or at none
 pub record Arrives {S : Type 0} (seen : S → Seen Entry) (ss : List S) (at : Option ℕ) (ahead : Bool) (to : List Entry → Option ℕ) : Type 0 where

@@ -1,17 +1,18 @@
 -- What is seen of points at a number: of each key its newest entry that is numbered at most so, where that is a set.
-use Rattle.std.specs.Prelude.{◌≡◌, ℕ, ◌+◌, ◌*◌, ◌^◌, ◌<◌, ◌≤◌, nat_lt, nat_le, Bool, true, false, ◌&&◌, not, List, [], ◌∷◌, length, filter, Option, Some, None, is_some, IfSome, IsTrue, if◌then◌else◌, option_map, option_and_then, ◌⊎◌, MatchOption, slice_get}
+use Rattle.std.specs.Prelude.{◌≡◌, ℕ, ◌+◌, ◌-◌, ◌*◌, unwrap_or, ◌^◌, ◌<◌, ◌≤◌, nat_lt, nat_le, Bool, true, false, ◌&&◌, not, List, [], ◌∷◌, length, filter, Option, Some, None, is_some, IfSome, IsTrue, if◌then◌else◌, option_map, option_and_then, ◌⊎◌, MatchOption, slice_get}
 use Rattle.std.specs.List.{list_any}
 use Rattle.std.specs.Option.{option_map_or}
 use Rattle.std.specs.Ordering.{is_eq}
 use Rattle.rk_key.specs.Keys.{key_cmp, IsKey}
-use Rattle.rk_model.specs.Sources.{Seen, count_before, item_at, op_key}
+use Rattle.rk_model.specs.Sources.{Seen, count_before, before_cut, item_at, op_key, points_below}
 use Rattle.rk_model.specs.declared.op.Op.{Op}
 use Rattle.rk_model.specs.declared.op.Op.TheVariants.{Put, Del, RangeSet, RangeUnset, RangeDel}
 use Rattle.rk_model.specs.declared.op.Entry.{Entry}
 use Rattle.rk_merge.specs.Unions.{Among}
 use Rattle.rk_merge.specs.Cuts.{place_near, is_beyond, is_nearer, first_behind}
-use Rattle.rk_pointmerge.specs.Merges.{comes_before, rank, sum_to, Merging, merging_seen}
-use Rattle.rk_pointmerge.specs.Moves.{IsWithin}
+use Rattle.rk_merge.specs.Several.{sum_to}
+use Rattle.rk_pointmerge.specs.Merges.{comes_before, rank, turning_reads, Merging, merging_seen}
+use Rattle.rk_model.specs.Runs.{IsWithin}
 
 abbrev pub is_put : Op → Bool
 is_put (Put key value) = true
@@ -36,9 +37,33 @@ pub record Viewing (S : Type 0) : Type 0 where
   pub n : ℕ
   pub mark : Option ℕ
 
--- the most that one call may read: two seeks, and all steps there and back
+-- the visible entry beside a gap between the visible ones, behind it or before it
+abbrev pub beside : Bool → ℕ → List Entry → ℕ → Option Entry
+beside ahead n es gap = item_at (visible n es) (place_near ahead gap (length (visible n es)))
+
+-- what the gaps up to a place read, and none where there is no place
+abbrev pub reads_to : Seen Entry → Option ℕ → ℕ
+reads_to s place = option_map_or (sum_to s.step_reads) place 0
+
+-- where an entry stands among all
+abbrev pub placed_in : List Entry → Option Entry → Option ℕ
+placed_in es e = option_map (λ e. rank e es) e
+
+-- what it reads to pass the hidden entries of a gap
+abbrev pub passed_reads : Seen Entry → ℕ → List Entry → ℕ → ℕ
+passed_reads s n es gap = sum_to s.step_reads (unwrap_or (placed_in es (beside true n es gap)) (length es)) - reads_to s (placed_in es (beside false n es gap))
+
+-- The way back knows the newest version of a key once it has passed it. Then it turns, and comes back to it.
+abbrev pub return_reads : Seen Entry → List Entry → Entry → ℕ
+return_reads s es e = s.step_reads (rank e es) + turning_reads true (op_key e.op) s (before_cut (rank e es))
+
+-- what a gap reads at most, ahead or back
+abbrev pub hidden_reads : Seen Entry → ℕ → List Entry → ℕ → ℕ
+hidden_reads s n es gap = passed_reads s n es gap + option_map_or (return_reads s es) (beside false n es gap) 0
+
+-- where the list isn't told, the most that one call may read: two seeks, and all steps there and back
 abbrev pub view_most : Seen Entry → ℕ
-view_most s = 2 * s.seek_reads + 4 * sum_to s.step_reads s.count + 3 * sum_to s.turn_reads s.count
+view_most s = 2 * s.seek_most + 4 * sum_to s.step_reads s.count + 3 * sum_to s.turn_reads s.count
 
 abbrev pub viewed_place : Option (List Entry) → ℕ → Option ℕ → Option ℕ → Option ℕ
 viewed_place (Some es) n place mark = option_and_then (λ m. option_map (λ e. rank e (visible n es)) (item_at es place)) mark
@@ -48,21 +73,25 @@ abbrev pub viewed_count : Option (List Entry) → ℕ → ℕ
 viewed_count (Some es) n = length (visible n es)
 viewed_count None n = 2 ^ 64
 
+-- A seek reads that of the sources, and the gap to which it leads; a step reads the gap that it crosses. A step
+-- back is a turn of the sources, which stand ahead at each visible entry.
 abbrev pub viewed : Seen Entry → ℕ → Option ℕ → Seen Entry
 viewed s n mark = record {
   held = option_map (visible n) s.held;
   place = viewed_place s.held n s.place mark;
   count = viewed_count s.held n;
-  seek_reads = view_most s;
-  step_reads = λ gap. view_most s;
+  seek_reads = λ key. option_map_or (λ es. s.seek_reads key + hidden_reads s n es (points_below key (visible n es))) s.held (view_most s);
+  seek_most = option_map_or (λ es. s.seek_most + sum_to (hidden_reads s n es) (length (visible n es))) s.held (view_most s);
+  step_reads = λ gap. option_map_or (λ es. hidden_reads s n es gap + option_map_or s.turn_reads (placed_in es (beside true n es gap)) 0) s.held (view_most s);
   turn_reads = λ place. 0;
   turn_to_next = 0;
   turn_to_prev = 0;
 }
 
--- stands at an entry that is visible
+-- stands at an entry that is visible, ahead
 pub record Views (s : Seen Entry) (n : ℕ) : Type 0 where
   pub placed : is_some s.place ≡ true
+  pub ahead : s.turn_to_next ≡ 0
   pub within : IsWithin s
   pub told : IfSome s.held (λ es. IfSome (item_at es s.place) (λ e. is_visible n es e ≡ true))
 
@@ -110,7 +139,7 @@ pub record IsNewest (n : ℕ) (es : List Entry) (t u : Entry → Bool) (place : 
   pub shrinks : (y : Entry) → Among y es → u y ≡ true → t y ≡ true
   pub behind : first_behind u es ≡ Some d
   pub taken : t d ≡ true
-  pub kept : is_kept key (op_key d.op) ≡ true
+  pub kept : key ≡ Some (op_key d.op)
   pub seen : is_visible n es d ≡ found
   pub passed : (y : Entry) → Among y es → t y ≡ true → u y ≡ false → (y ≡ d) ⊎ (is_visible n es y ≡ false)
 
@@ -124,18 +153,47 @@ FindsNewest n key before now found =
 -- to the entry behind the cut, whose key is kept
 abbrev pub ComesBack : Option (List ℕ) → Seen Entry → Seen Entry → Type 0
 ComesBack key before now =
-    IfSome before.held (λ es. (t : Entry → Bool) → before.place ≡ place_near false (count_before t es) (length es) → (d : Entry) → first_behind t es ≡ Some d → is_kept key (op_key d.op) ≡ true → now.place ≡ place_near true (count_before t es) (length es))
+    IfSome before.held (λ es. (t : Entry → Bool) → before.place ≡ place_near false (count_before t es) (length es) → (d : Entry) → first_behind t es ≡ Some d → key ≡ Some (op_key d.op) → now.place ≡ place_near true (count_before t es) (length es))
 
 -- what the gaps before a place may read
 abbrev pub gaps_left : Seen Entry → ℕ
-gaps_left s = option_map_or (sum_to s.step_reads) s.place 0
+gaps_left s = reads_to s s.place
+
+-- what it reads to turn to the entry behind, whose key is kept
+abbrev pub come_reads : Option (List ℕ) → Seen Entry → ℕ
+come_reads key s = turning_reads true (unwrap_or key []) s s.place
+
+-- stands ahead, where it stands at a place
+abbrev pub StandsAhead : Seen Entry → Type 0
+StandsAhead s = IfSome s.place (λ i. s.turn_to_next ≡ 0)
+
+-- What was read on the way ahead, refused or not: at most the gaps up to the place to which it leads.
+abbrev pub ReadsAhead : ℕ → Option (List ℕ) → Seen Entry → ℕ → ℕ → Type 0
+ReadsAhead n key before r r' =
+    IfSome before.held (λ es. (t : Entry → Bool) → Falls t → before.place ≡ place_near true (count_before t es) (length es) → StartsAhead n es t key
+    → (to : Option ℕ) → Lands true n es t to → r' + sum_to before.step_reads (count_before t es) ≤ r + sum_to before.step_reads (unwrap_or to (length es)))
+
+-- What was read on the way back, refused or not: at most the gaps down to the place to which it leads, and
+-- something more there.
+abbrev pub ReadsBack : ℕ → (List Entry → Option ℕ → ℕ) → Seen Entry → ℕ → ℕ → Type 0
+ReadsBack n more before r r' =
+    IfSome before.held (λ es. (t : Entry → Bool) → Falls t → before.place ≡ place_near false (count_before t es) (length es)
+    → (to : Option ℕ) → Lands false n es t to → r' + reads_to before to ≤ r + (gaps_left before + more es to))
+
+-- the gap before the place, since the entry there is passed
+abbrev pub step_over : Seen Entry → List Entry → Option ℕ → ℕ
+step_over s es to = option_map_or s.step_reads to 0
+
+-- and the return to it
+abbrev pub return_to : Seen Entry → List Entry → Option ℕ → ℕ
+return_to s es to = option_map_or (return_reads s es) (item_at es to) 0
 
 -- the entry here is numbered at most n
 abbrev pub IsOld : ℕ → Seen Entry → Type 0
 IsOld n s = IfSome s.held (λ es. IfSome (item_at es s.place) (λ e. e.seq ≤ n))
 
 abbrev pub back_most : Seen Entry → ℕ
-back_most s = s.seek_reads + 2 * sum_to s.step_reads s.count + sum_to s.turn_reads s.count
+back_most s = s.seek_most + 2 * sum_to s.step_reads s.count + sum_to s.turn_reads s.count
 
 abbrev pub viewing_seen : {S : Type 0} → (S → Seen Entry) → Viewing S → Seen Entry
 viewing_seen seen v = viewed (merging_seen seen v.merge) v.n v.mark
@@ -152,3 +210,8 @@ pub record Looks (n : ℕ) (before now : Seen Entry) (there : Bool) (to : List E
 abbrev pub Finds : Bool → ℕ → Option (List ℕ) → Seen Entry → Seen Entry → Type 0
 Finds true n key before now = FindsAhead n key before now
 Finds false n key before now = FindsBack n before now
+
+-- in either direction
+abbrev pub ReadsWay : Bool → ℕ → Option (List ℕ) → Seen Entry → ℕ → ℕ → Type 0
+ReadsWay true n key before r r' = ReadsAhead n key before r r'
+ReadsWay false n key before r r' = ReadsBack n (return_to before) before r r'

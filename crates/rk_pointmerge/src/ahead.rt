@@ -1,9 +1,9 @@
 // The first visible entry on the way ahead.
 ghost use Rattle.std.specs.Prelude.{◌≡◌, OnOk, IfOk, IfErr};
 ghost use Rattle.rk_outside.specs.declared.error.SourceError.{SourceError};
-ghost use Rattle.rk_pointmerge.specs.Merges.{sum_to};
-ghost use Rattle.rk_pointmerge.specs.Moves.{at_rest, Runs, IsWithin};
-ghost use Rattle.rk_pointmerge.specs.Views.{Passes, FindsAhead};
+ghost use Rattle.rk_merge.specs.Several.{sum_to};
+ghost use Rattle.rk_model.specs.Runs.{at_rest, Runs, IsWithin};
+ghost use Rattle.rk_pointmerge.specs.Views.{Passes, FindsAhead, ReadsAhead};
 
 use crate::kept::KeptKey;
 use crate::one::step_one;
@@ -21,6 +21,8 @@ pub(crate) fn find_ahead<R: Counting, P: PointSource<R>>(
     requires straight { (P.seen points.old).turn_to_next ≡ 0 }
     ensures ok { OnOk result (FindsAhead n key.old (P.seen points.old) (P.seen points.new)) }
     ensures inside { OnOk result (IsWithin (P.seen points.new)) }
+    ensures stands { OnOk result ((P.seen points.new).turn_to_next ≡ 0) }
+    ensures way { ReadsAhead n key.old (P.seen points.old) (R.read_count reader.old) (R.read_count reader.new) }
     ensures runs { Runs (at_rest (P.seen points.old)) (at_rest (P.seen points.new)) (P.seen points.old).held (R.fault_count reader.old) (R.fault_count reader.new) (R.read_count reader.old) (R.read_count reader.new) (sum_to (P.seen points.old).step_reads (P.seen points.old).count) result }
 {
     while let Some(entry) = points.here() {

@@ -2,8 +2,11 @@
 ghost use Rattle.std.specs.Prelude.{◌≡◌, ◌+◌, ◌<◌, ◌≤◌, ℕ, length, All, OnOk, IfOk, IfErr, IfSome, IsSome, IsTrue, Some, not, slice_index_or};
 ghost use Rattle.rk_outside.specs.declared.error.SourceError.{SourceError};
 ghost use Rattle.rk_model.specs.Sources.{op_key};
-ghost use Rattle.rk_pointmerge.specs.Merges.{total, united, merged, merged_turn, shown};
-ghost use Rattle.rk_pointmerge.specs.Moves.{all_rest, Runs, IsWithin, Placed, placed_most, Stands, Left, go_reads};
+ghost use Rattle.rk_merge.specs.Several.{total};
+ghost use Rattle.rk_pointmerge.specs.Merges.{united, merged, shown, turn_to};
+ghost use Rattle.rk_model.specs.Runs.{Runs, IsWithin};
+ghost use Rattle.rk_merge.specs.Several.{all_rest};
+ghost use Rattle.rk_pointmerge.specs.Moves.{Placed, placed_most, Stands, Left, go_reads};
 
 use crate::one::{place_one, step_one};
 use rk_key::UserKey;
@@ -20,7 +23,7 @@ pub(crate) fn place_all<R: Counting, S: PointSource<R>>(
 ) -> Result<(), SourceError>
     requires { IsTrue turning → All (λ s. IsWithin (S.seen s)) sources.old }
     ensures ok { OnOk result ((k : ℕ) (d : S) → k < length sources.old → Placed turning key.now ahead (S.seen (slice_index_or sources.old k d)) (S.seen (slice_index_or sources.new k d))) }
-    ensures runs { Runs (all_rest S.seen sources.old) (all_rest S.seen sources.new) (united S.seen sources.old) (R.fault_count reader.old) (R.fault_count reader.new) (R.read_count reader.old) (R.read_count reader.new) (total (λ s. placed_most turning (S.seen s)) sources.old) result }
+    ensures runs { Runs (all_rest S.seen sources.old) (all_rest S.seen sources.new) (united S.seen sources.old) (R.fault_count reader.old) (R.fault_count reader.new) (R.read_count reader.old) (R.read_count reader.new) (total (λ s. placed_most turning key.now ahead (S.seen s)) sources.old) result }
 {
     for source in sources.iter_mut() {
         place_one(source, reader, key, ahead, turning)?;
@@ -56,7 +59,7 @@ fn turn<R: Counting, S: PointSource<R>>(
 ) -> Result<(), SourceError>
     requires { Stands S.seen sources.old at (not ahead) }
     ensures ok { OnOk result (Left S.seen sources.old sources.new at (not ahead) ahead) }
-    ensures runs { Runs (all_rest S.seen sources.old) (all_rest S.seen sources.new) (united S.seen sources.old) (R.fault_count reader.old) (R.fault_count reader.new) (R.read_count reader.old) (R.read_count reader.new) (merged_turn S.seen sources.old) result }
+    ensures runs { Runs (all_rest S.seen sources.old) (all_rest S.seen sources.new) (united S.seen sources.old) (R.fault_count reader.old) (R.fault_count reader.new) (R.read_count reader.old) (R.read_count reader.new) (turn_to ahead (merged S.seen sources.old (Some at) (not ahead))) result }
 {
     let key = key_at::<R, S>(&sources[at])?;
     place_all(sources, reader, &key, ahead, true)

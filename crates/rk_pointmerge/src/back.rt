@@ -1,8 +1,8 @@
 // The last visible entry on the way back.
 ghost use Rattle.std.specs.Prelude.{◌≡◌, ◌+◌, ◌<◌, ◌≤◌, IsSome, OnOk, IfOk, false};
-ghost use Rattle.rk_pointmerge.specs.Merges.{reach, step_most};
-ghost use Rattle.rk_pointmerge.specs.Moves.{at_rest, Runs, IsWithin};
-ghost use Rattle.rk_pointmerge.specs.Views.{FindsBack, FindsNewest, ComesBack, IsOld, gaps_left, back_most, is_put};
+ghost use Rattle.rk_pointmerge.specs.Merges.{reach};
+ghost use Rattle.rk_model.specs.Runs.{at_rest, Runs, IsWithin};
+ghost use Rattle.rk_pointmerge.specs.Views.{FindsBack, FindsNewest, ComesBack, ReadsBack, StandsAhead, IsOld, come_reads, gaps_left, back_most, is_put, return_to, step_over};
 
 use crate::kept::KeptKey;
 use crate::one::{seek_one, step_one};
@@ -20,6 +20,8 @@ pub(crate) fn find_back<R: Counting, P: PointSource<R>>(
     requires straight { (P.seen points.old).turn_to_prev ≡ 0 }
     ensures ok { OnOk result (FindsBack n (P.seen points.old) (P.seen points.new)) }
     ensures inside { OnOk result (IsWithin (P.seen points.new)) }
+    ensures stands { OnOk result (StandsAhead (P.seen points.new)) }
+    ensures way { ReadsBack n (return_to (P.seen points.old)) (P.seen points.old) (R.read_count reader.old) (R.read_count reader.new) }
     ensures runs { Runs (at_rest (P.seen points.old)) (at_rest (P.seen points.new)) (P.seen points.old).held (R.fault_count reader.old) (R.fault_count reader.new) (R.read_count reader.old) (R.read_count reader.new) (back_most (P.seen points.old)) result }
 {
     while let Some(entry) = points.here() {
@@ -49,6 +51,7 @@ fn newest_back<R: Counting, P: PointSource<R>>(
     ensures back { OnOk result ((P.seen points.new).turn_to_prev ≡ 0) }
     ensures lower { OnOk result (reach false (P.seen points.new) < reach false (P.seen points.old)) }
     ensures kept { OnOk result (IsSome key.new) }
+    ensures way { ReadsBack n (step_over (P.seen points.old)) (P.seen points.old) (R.read_count reader.old) (R.read_count reader.new) }
     ensures spent { OnOk result (R.read_count reader.new + gaps_left (P.seen points.new) ≤ R.read_count reader.old + gaps_left (P.seen points.old)) }
     ensures runs { Runs (at_rest (P.seen points.old)) (at_rest (P.seen points.new)) (P.seen points.old).held (R.fault_count reader.old) (R.fault_count reader.new) (R.read_count reader.old) (R.read_count reader.new) (gaps_left (P.seen points.old)) result }
 {
@@ -84,7 +87,8 @@ fn come_back<R: Counting, P: PointSource<R>>(
     requires within { IsWithin (P.seen points.old) }
     ensures ok { OnOk result (ComesBack key.now (P.seen points.old) (P.seen points.new)) }
     ensures inside { OnOk result (IsWithin (P.seen points.new)) }
-    ensures runs { Runs (at_rest (P.seen points.old)) (at_rest (P.seen points.new)) (P.seen points.old).held (R.fault_count reader.old) (R.fault_count reader.new) (R.read_count reader.old) (R.read_count reader.new) ((P.seen points.old).seek_reads + step_most (P.seen points.old)) result }
+    ensures stands { OnOk result ((P.seen points.new).turn_to_next ≡ 0) }
+    ensures runs { Runs (at_rest (P.seen points.old)) (at_rest (P.seen points.new)) (P.seen points.old).held (R.fault_count reader.old) (R.fault_count reader.new) (R.read_count reader.old) (R.read_count reader.new) (come_reads key.now (P.seen points.old)) result }
 {
     if points.here().is_some() {
         step_one(points, reader, true)

@@ -1,5 +1,5 @@
 // A key that is kept in a buffer.
-ghost use Rattle.std.specs.Prelude.{◌≡◌, OnOk, IfOk, IfErr, IsSome, Some, None};
+ghost use Rattle.std.specs.Prelude.{◌≡◌, OnOk, IfOk, IfErr, IsSome, IsTrue, Some, None};
 ghost use Rattle.rk_outside.specs.declared.error.SourceError.{SourceError};
 ghost use Rattle.rk_pointmerge.specs.Views.{is_kept};
 
@@ -52,7 +52,8 @@ impl KeptKey {
     }
 
     pub(crate) fn is(&self, key: &UserKey) -> bool
-        ensures { result ≡ is_kept self.now key.now }
+        ensures is { result ≡ is_kept self.now key.now }
+        ensures same { IsTrue result → self.now ≡ Some key.now }
     {
         !self.bytes.is_empty() && compare(key.bytes(), &self.bytes).is_eq()
     }

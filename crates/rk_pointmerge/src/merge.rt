@@ -3,9 +3,12 @@ ghost use Rattle.std.specs.Prelude.{◌≡◌, length, IsSome, IfOk, OnOk, Some,
 ghost use Rattle.rk_outside.specs.Causes.{HasSourceCause, RaisesAtMost};
 ghost use Rattle.rk_model.specs.Sources.{Goes, points_below};
 ghost use Rattle.rk_merge.specs.Cuts.{place_near, step_place};
-ghost use Rattle.rk_pointmerge.specs.Merges.{merged, merged_place, merging_seen, turn_to, united, total};
-ghost use Rattle.rk_pointmerge.specs.MergeLaws.{united-sorted, merged-turns};
-ghost use Rattle.rk_pointmerge.specs.Moves.{Runs, Arrives, Stands, MovesOn, all_rest, go_reads};
+ghost use Rattle.rk_merge.specs.Several.{total};
+ghost use Rattle.rk_pointmerge.specs.Merges.{merged, merged_place, merging_seen, turn_to, united};
+ghost use Rattle.rk_pointmerge.specs.MergeLaws.{united-sorted, merged-bounded};
+ghost use Rattle.rk_model.specs.Runs.{Runs};
+ghost use Rattle.rk_merge.specs.Several.{all_rest};
+ghost use Rattle.rk_pointmerge.specs.Moves.{Arrives, Stands, MovesOn, go_reads};
 
 use crate::all::{leave, place_all};
 use crate::nearest::nearest;
@@ -64,7 +67,7 @@ impl<S: PointList> PointList for PointMerge<S> {
 impl<R: Counting, S: PointSource<R>> PointSource<R> for PointMerge<S> {
     ghost sorted = { λ m. united-sorted S.seen m.sources };
 
-    ghost turns = { λ m. merged-turns S.seen m.sources m.at m.ahead };
+    ghost bounded = { λ m. merged-bounded S.seen S.bounded m.sources m.at m.ahead };
 
     fn seek_ge(&mut self, reader: &mut R, key: &UserKey) -> Result<(), SourceError> {
         seek(self, reader, key, true)
@@ -98,7 +101,7 @@ fn seek<R: Counting, S: PointSource<R>>(
     ensures goes { Goes (merging_seen S.seen merge.old) (merging_seen S.seen merge.new) (λ es. place_near ahead (points_below key.now es) (length es)) result }
     ensures straight { OnOk result (turn_to ahead (merging_seen S.seen merge.new) ≡ 0) }
     ensures cause { HasSourceCause (merging_seen S.seen merge.old).held (R.fault_count reader.old) (R.fault_count reader.new) result }
-    ensures reads { RaisesAtMost (R.read_count reader.old) (R.read_count reader.new) ((merging_seen S.seen merge.old).seek_reads) }
+    ensures reads { RaisesAtMost (R.read_count reader.old) (R.read_count reader.new) ((merging_seen S.seen merge.old).seek_reads key.now) }
 {
     merge.at = None;
     merge.at = seek_all(&mut merge.sources, reader, key, ahead)?;
@@ -135,7 +138,7 @@ fn seek_all<R: Counting, S: PointSource<R>>(
     ahead: bool,
 ) -> Result<Option<usize>, SourceError>
     ensures ok { IfOk result (λ at. Arrives S.seen sources.new at ahead (λ es. place_near ahead (points_below key.now es) (length es))) }
-    ensures runs { Runs (all_rest S.seen sources.old) (all_rest S.seen sources.new) (united S.seen sources.old) (R.fault_count reader.old) (R.fault_count reader.new) (R.read_count reader.old) (R.read_count reader.new) (total (λ s. (S.seen s).seek_reads) sources.old) result }
+    ensures runs { Runs (all_rest S.seen sources.old) (all_rest S.seen sources.new) (united S.seen sources.old) (R.fault_count reader.old) (R.fault_count reader.new) (R.read_count reader.old) (R.read_count reader.new) (total (λ s. (S.seen s).seek_reads key.now) sources.old) result }
 {
     place_all(sources, reader, key, ahead, false)?;
     Ok(nearest::<R, S>(sources, ahead))

@@ -163,3 +163,22 @@ fn a_newer_key_is_seen_at_its_number(rt: HostRuntime) -> Result<(), Fail> {
     );
     Ok(())
 }
+
+#[test]
+fn steps_turn_among_what_is_visible(rt: HostRuntime) -> Result<(), Fail> {
+    let mut visible = visible(rt.alloc(), 3)?;
+    visible.seek_ge(&mut NoReads, &read_key(rt.alloc(), b"a")?)?;
+    let mut keys = Vec::new(rt.alloc());
+    for ahead in [true, false, true, false, false] {
+        if <Visible<ListPoints> as PointSource<NoReads>>::here(&visible).is_some() {
+            if ahead {
+                visible.next(&mut NoReads)?;
+            } else {
+                visible.prev(&mut NoReads)?;
+            }
+        }
+        keys.push(shown(&visible))?;
+    }
+    assert_eq!(rt; keys.as_slice(), [b'c', b'b', b'c', b'b', 0].as_slice());
+    Ok(())
+}

@@ -3,9 +3,9 @@ ghost use Rattle.std.specs.Prelude.{◌≡◌, ◌<◌, ◌^◌, length, IsSome,
 ghost use Rattle.rk_outside.specs.Causes.{HasSourceCause, RaisesAtMost};
 ghost use Rattle.rk_model.specs.Sources.{Goes, points_below};
 ghost use Rattle.rk_merge.specs.Cuts.{place_near, step_place};
-ghost use Rattle.rk_pointmerge.specs.Moves.{MovesOn};
+ghost use Rattle.rk_pointmerge.specs.Moves.{MovesOn, go_reads};
 ghost use Rattle.rk_pointmerge.specs.Views.{viewed, viewing_seen, marked};
-ghost use Rattle.rk_pointmerge.specs.ViewLaws.{viewed-sorted, viewed-turns};
+ghost use Rattle.rk_pointmerge.specs.ViewLaws.{viewed-sorted, viewed-bounded};
 
 use crate::kept::KeptKey;
 use crate::{PointMerge, look};
@@ -22,7 +22,8 @@ const MIDDLE: u64 = 1 << 63;
 /// where that is a set. It is told where the merge is.
 ///
 /// What is hidden is passed without a copy. Only the key of what was passed last is kept, in a buffer. On the
-/// way back the newest version of a key is known once it is passed, and then returned to.
+/// way back the newest version of a key is known once it is passed, and then returned to. So what a call may
+/// read is what the gap between two visible entries costs that it leads to or crosses.
 #[derive(Debug, Drop)]
 pub struct Visible<S: PointList> {
     merge: PointMerge<S>,
@@ -68,7 +69,7 @@ impl<S: PointList> PointList for Visible<S> {
 impl<R: Counting, S: PointSource<R>> PointSource<R> for Visible<S> {
     ghost sorted = { λ v. viewed-sorted S.seen v };
 
-    ghost turns = { λ v. viewed-turns S.seen v };
+    ghost bounded = { λ v. viewed-bounded S.seen S.bounded v };
 
     fn seek_ge(&mut self, reader: &mut R, key: &UserKey) -> Result<(), SourceError> {
         seek(self, reader, key, true)
@@ -101,7 +102,7 @@ fn seek<R: Counting, S: PointSource<R>>(
 ) -> Result<(), SourceError>
     ensures goes { Goes (viewing_seen S.seen visible.old) (viewing_seen S.seen visible.new) (λ es. place_near ahead (points_below key.now es) (length es)) result }
     ensures cause { HasSourceCause (viewing_seen S.seen visible.old).held (R.fault_count reader.old) (R.fault_count reader.new) result }
-    ensures reads { RaisesAtMost (R.read_count reader.old) (R.read_count reader.new) ((viewing_seen S.seen visible.old).seek_reads) }
+    ensures reads { RaisesAtMost (R.read_count reader.old) (R.read_count reader.new) ((viewing_seen S.seen visible.old).seek_reads key.now) }
 {
     visible.mark = None;
     let there = look::seek(
@@ -126,7 +127,7 @@ fn step<R: Counting, S: PointSource<R>>(
     ensures goes { Goes (viewing_seen S.seen visible.old) (viewing_seen S.seen visible.new) (λ es. step_place ahead es (viewing_seen S.seen visible.old).place) result }
     ensures moves { OnOk result (MovesOn ahead (viewing_seen S.seen visible.old).place (viewing_seen S.seen visible.new).place) }
     ensures cause { HasSourceCause (viewing_seen S.seen visible.old).held (R.fault_count reader.old) (R.fault_count reader.new) result }
-    ensures reads { RaisesAtMost (R.read_count reader.old) (R.read_count reader.new) ((viewing_seen S.seen visible.old).seek_reads) }
+    ensures reads { RaisesAtMost (R.read_count reader.old) (R.read_count reader.new) (go_reads ahead (viewing_seen S.seen visible.old)) }
 {
     let Some(at) = visible.mark.take() else {
         return Ok(());

@@ -1,5 +1,5 @@
 -- A failure of a part of a call is one of the whole call.
-use Rattle.std.proofs.Common.{ℕ, ◌≤◌, arith}
+use Rattle.std.proofs.Common.{◌≡◌, ℕ, ◌≤◌, arith, ◌∙◌}
 use Rattle.rk_outside.specs.Causes.{Rose}
 use Rattle.rk_program.specs.Input.{IsFailure}
 use Rattle.rk_program.specs.declared.failure.Failure.{Failure}
@@ -8,6 +8,6 @@ use Rattle.rk_program.specs.declared.failure.Failure.TheVariants.{Memory, Fault}
 Rose-earlier : (first between now : ℕ) → first ≤ between → Rose between now → Rose first now
 Rose-earlier first between now later rose = omega arith
 
-pub IsFailure-whole : (first between now : ℕ) (failure : Failure) → first ≤ between → IsFailure between now failure → IsFailure first now failure
-IsFailure-whole first between now Memory later h = h
-IsFailure-whole first between now (Fault faults) later h = (Rose-earlier first between now later h.0, h.1)
+pub IsFailure-whole : (first between now : ℕ) (failure : Failure) → between ≡ first → IsFailure between now failure → IsFailure first now failure
+IsFailure-whole first between now Memory same h = h ∙ same
+IsFailure-whole first between now (Fault faults) same h = (Rose-earlier first between now (omega (arith, same)) h.0, h.1)

@@ -69,6 +69,26 @@ OnNotBegun (cause.SourceFault faults) P = P
 OnNotBegun (cause.SinkFault faults) P = ⊤
 OnNotBegun cause.Memory P = ⊤
 
+-- a fact for each cause but a fault of the source
+abbrev pub UnlessSourceFault : Cause → Type 0 → Type 0
+UnlessSourceFault cause.Done P = P
+UnlessSourceFault cause.Words P = P
+UnlessSourceFault (cause.Line line why) P = P
+UnlessSourceFault (cause.Length limit) P = P
+UnlessSourceFault (cause.SourceFault faults) P = ⊤
+UnlessSourceFault (cause.SinkFault faults) P = P
+UnlessSourceFault cause.Memory P = P
+
+-- and for each but a fault of the sink
+abbrev pub UnlessSinkFault : Cause → Type 0 → Type 0
+UnlessSinkFault cause.Done P = P
+UnlessSinkFault cause.Words P = P
+UnlessSinkFault (cause.Line line why) P = P
+UnlessSinkFault (cause.Length limit) P = P
+UnlessSinkFault (cause.SourceFault faults) P = P
+UnlessSinkFault (cause.SinkFault faults) P = ⊤
+UnlessSinkFault cause.Memory P = P
+
 abbrev pub IsDoneOrMemory : Cause → Type 0
 IsDoneOrMemory cause.Done = ⊤
 IsDoneOrMemory cause.Memory = ⊤
@@ -102,16 +122,16 @@ abbrev pub DidPart : (left_before left_now written_before written_now : Option (
 DidPart left_before left_now written_before written_now =
     (lines : List Line) × GaveLines left_before left_now lines × WrotePart written_before written_now lines
 
--- why no file was read
+-- why no file was read; but where the source failed, no fault of it was passed over
 abbrev pub IsNoFile : (left_before left_now : Option (List ℕ)) → (count_before count_now : ℕ) → NoFile → Type 0
-IsNoFile left_before left_now count_before count_now no_file.Memory = ⊤
+IsNoFile left_before left_now count_before count_now no_file.Memory = count_now ≡ count_before
 IsNoFile left_before left_now count_before count_now (no_file.Fault faults) = IsFault count_before count_now faults
-IsNoFile left_before left_now count_before count_now no_file.TooLong = GaveTooMany left_before left_now
-IsNoFile left_before left_now count_before count_now (no_file.BadLine line why) = GaveBadLine left_before left_now line why
+IsNoFile left_before left_now count_before count_now no_file.TooLong = GaveTooMany left_before left_now × (count_now ≡ count_before)
+IsNoFile left_before left_now count_before count_now (no_file.BadLine line why) = GaveBadLine left_before left_now line why × (count_now ≡ count_before)
 
 -- what each end of a run tells
 abbrev pub IsEnd : (left_before left_now written_before written_now : Option (List ℕ)) → (source_before source_now sink_before sink_now : ℕ) → Cause → Type 0
-IsEnd lb ln wb wn sb sn kb kn cause.Done = DidAll lb ln wb wn × (sn ≡ sb) × (kn ≡ kb)
+IsEnd lb ln wb wn sb sn kb kn cause.Done = DidAll lb ln wb wn
 IsEnd lb ln wb wn sb sn kb kn cause.Words = ⊤
 IsEnd lb ln wb wn sb sn kb kn (cause.Line line why) = GaveBadLine lb ln line why
 IsEnd lb ln wb wn sb sn kb kn (cause.Length limit) = (limit ≡ most_file_bytes) × GaveTooMany lb ln

@@ -1,5 +1,5 @@
 // What is written to a sink.
-ghost use Rattle.std.specs.Prelude.{◌≡◌, ◌≤◌, length, OnOk, OnErr, IfErr};
+ghost use Rattle.std.specs.Prelude.{◌≡◌, ◌≤◌, length, OnOk, OnErr, IfErr, IfSome, IsTrue};
 ghost use Rattle.std.specs.Io.KnownBytes.{Appends, Keeps};
 ghost use Rattle.rk_outside.specs.Sinks.{AppendsPrefix};
 ghost use Rattle.rk_program.specs.Input.{IsFailure};
@@ -36,6 +36,7 @@ pub fn write_all<K: Sink>(sink: &mut K, bytes: &[u8]) -> Result<(), Failure>
 /// Hands on what was written.
 pub fn finish<K: Sink>(sink: &mut K) -> Result<(), Failure>
     ensures kept { Keeps (K.written sink.old) (K.written sink.new) }
+    ensures finished { OnOk result (IfSome (K.finished sink.new) IsTrue) }
     ensures no_fault { OnOk result (K.fault_count sink.new ≡ K.fault_count sink.old) }
     ensures cause { IfErr result (IsFailure (K.fault_count sink.old) (K.fault_count sink.new)) }
     ensures later { K.fault_count sink.old ≤ K.fault_count sink.new }

@@ -1,11 +1,11 @@
 // The top call.
-ghost use Rattle.std.specs.Prelude.{◌≡◌, ℕ, ◌≤◌, ◌⊎◌, List, Some, Ok, IfOk, IfErr, OnOk, OnErr, IsTrue, not, length};
+ghost use Rattle.std.specs.Prelude.{◌≡◌, ℕ, ◌≤◌, ◌⊎◌, List, Some, Ok, IfSome, IfOk, IfErr, OnOk, OnErr, IsTrue, not, length};
 ghost use Rattle.std.specs.Io.KnownBytes.{Keeps};
 ghost use Rattle.rk_outside.specs.Causes.{Rose};
 ghost use Rattle.rk_script.specs.Script.{no_names, script};
 ghost use Rattle.rk_script.specs.declared.line.Line.{Line};
 ghost use Rattle.rk_program.specs.Input.{most_file_bytes, GaveTooMany, IsFault, IsFailure};
-ghost use Rattle.rk_program.specs.Ends.{status_of, are_words, is_words, OnDone, OnLine, OnLength, OnSourceFault, OnSinkFault, OnMemory, OnNotBegun, IsDoneOrMemory, GaveLines, GaveBadLine, Wrote, WrotePart, DidAll, DidPart, IsNoFile, IsEnd};
+ghost use Rattle.rk_program.specs.Ends.{status_of, are_words, is_words, OnDone, OnLine, OnLength, OnSourceFault, OnSinkFault, OnMemory, OnNotBegun, UnlessSourceFault, UnlessSinkFault, IsDoneOrMemory, GaveLines, GaveBadLine, Wrote, WrotePart, DidAll, DidPart, IsNoFile, IsEnd};
 ghost use Rattle.rk_program.specs.Transcript.{AreAccepted};
 
 use crate::failure::{Failure, NoFile};
@@ -42,14 +42,17 @@ pub fn run<S: Source, K: Sink, V>(
     ensures source_count { S.fault_count source.old ≤ S.fault_count source.new }
     ensures sink_count { K.fault_count sink.old ≤ K.fault_count sink.new }
 
-    // A run that is done has passed over no fault.
-    ensures no_fault { OnDone result.cause ((S.fault_count source.new ≡ S.fault_count source.old) × (K.fault_count sink.new ≡ K.fault_count sink.old)) }
+    // No fault is passed over: a run that meets one ends with it.
+    ensures no_source_fault { UnlessSourceFault result.cause (S.fault_count source.new ≡ S.fault_count source.old) }
+    ensures no_sink_fault { UnlessSinkFault result.cause (K.fault_count sink.new ≡ K.fault_count sink.old) }
 
     // Where no line was done, the sink is as before.
     ensures not_begun { OnNotBegun result.cause (sink.new ≡ sink.old) }
 
-    // What was written is the transcript of a run of the machine over all lines, or a first part of it.
+    // What was written is the transcript of a run of the machine over all lines, and all of it handed on, or a first
+    // part of it.
     ensures done { OnDone result.cause (DidAll (S.left source.old) (S.left source.new) (K.written sink.old) (K.written sink.new)) }
+    ensures finished { OnDone result.cause (IfSome (K.finished sink.new) IsTrue) }
     ensures part { OnSinkFault result.cause (λ _. DidPart (S.left source.old) (S.left source.new) (K.written sink.old) (K.written sink.new)) }
     ensures memory { OnMemory result.cause (Keeps (K.written sink.old) (K.written sink.new)
         ⊎ DidPart (S.left source.old) (S.left source.new) (K.written sink.old) (K.written sink.new)) }
@@ -75,6 +78,9 @@ fn end<S: Source, K: Sink>(alloc: Global, words: &[String], source: &mut S, sink
     ensures source_count { S.fault_count source.old ≤ S.fault_count source.new }
     ensures sink_count { K.fault_count sink.old ≤ K.fault_count sink.new }
     ensures not_begun { OnNotBegun result (sink.new ≡ sink.old) }
+    ensures no_source_fault { UnlessSourceFault result (S.fault_count source.new ≡ S.fault_count source.old) }
+    ensures no_sink_fault { UnlessSinkFault result (K.fault_count sink.new ≡ K.fault_count sink.old) }
+    ensures finished { OnDone result (IfSome (K.finished sink.new) IsTrue) }
 {
     if !is_run(words) {
         return Cause::Words;
@@ -133,6 +139,7 @@ fn read_lines<S: Source>(alloc: Global, source: &mut S) -> Result<Vec<Line>, NoF
 fn do_lines<K: Sink>(alloc: Global, lines: &[Line], sink: &mut K) -> Result<(), Failure>
     requires { AreAccepted no_names lines.now }
     ensures done { OnOk result (Wrote (K.written sink.old) (K.written sink.new) lines.now) }
+    ensures finished { OnOk result (IfSome (K.finished sink.new) IsTrue) }
     ensures no_fault { OnOk result (K.fault_count sink.new ≡ K.fault_count sink.old) }
     ensures part { OnErr result (WrotePart (K.written sink.old) (K.written sink.new) lines.now) }
     ensures cause { IfErr result (IsFailure (K.fault_count sink.old) (K.fault_count sink.new)) }

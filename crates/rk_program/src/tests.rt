@@ -186,3 +186,25 @@ fn a_sink_that_fails_keeps_the_replies_before(rt: HostRuntime) -> Result<(), Fai
     assert_eq!(rt; sink.bytes(), b"w committed 1 to 2\n".as_slice());
     Ok(())
 }
+
+// Files, the numbers of the sink's last calls, and what was written before those.
+const FINISHED: [(&[u8], &[u64], &[u8]); 3] = [
+    (b"", &[1], b""),
+    (b"snap s", &[2], b"s at 0\n"),
+    (b"snap s\nput w a p\nsnap t", &[3], b"s at 0\nt at 0\n"),
+];
+
+#[test]
+fn the_sink_is_finished_behind_the_last_reply(rt: HostRuntime) -> Result<(), Fail> {
+    let alloc = rt.alloc();
+    let words = words(alloc, "run")?;
+    for (file, fail, told) in FINISHED {
+        let mut source = SliceSource::new(file, &[]);
+        let mut sink = VecSink::new(alloc, fail);
+        let ended = run(alloc, &words, &mut source, &mut sink, ());
+        let faults = 1;
+        assert_eq!(rt; ended.cause, Cause::SinkFault { faults });
+        assert_eq!(rt; sink.bytes(), told);
+    }
+    Ok(())
+}

@@ -6,8 +6,8 @@ use Rattle.std.specs.Option.{option_map}
 use Rattle.rk_script.specs.declared.line.Event.{Event}
 use Rattle.rk_script.specs.Checks.{is_for_bytes, decoded, if_there}
 use Rattle.rk_script.specs.Grammar.{OptionWords, and_then, with_bounds, opened}
-use Rattle.rk_script.specs.KeyTests.{is_key, is_mask}
-use Rattle.rk_script.specs.Words.{is_name}
+use Rattle.rk_key.specs.KeyTests.{is_key}
+use Rattle.rk_script.specs.Words.{is_mask, is_name}
 use Rattle.rk_script.specs.declared.line.Event.TheVariants.{Iter}
 use Rattle.rk_script.specs.declared.line.Why.{Why}
 use Rattle.rk_script.specs.declared.line.Why.TheVariants.{Name, Escape, Key, Suffix}

@@ -1,7 +1,7 @@
 -- Checks of words in the order in which they are made, and what the first that fails says.
 use Rattle.std.specs.Prelude.{ℕ, Bool, true, List, [], ◌∷◌, if◌then◌else◌, Option, unwrap_or, Result, Ok, Err}
 use Rattle.std.specs.Option.{option_map_or, is_some}
-use Rattle.rk_script.specs.KeyTests.{is_key}
+use Rattle.rk_key.specs.KeyTests.{is_key}
 use Rattle.rk_script.specs.Words.{is_name, unescaped}
 use Rattle.rk_script.specs.declared.line.Why.{Why}
 use Rattle.rk_script.specs.declared.line.Why.TheVariants.{Name, Escape, Key}

@@ -4,8 +4,8 @@ use Rattle.std.specs.Option.{option_map, option_map_or}
 use Rattle.rk_model.specs.Named.{named}
 use Rattle.rk_model.specs.Spans.{same_bytes}
 use Rattle.rk_script.specs.Checks.{checked, decoded, is_for_bytes, a_name, for_bytes, a_key, if_there}
-use Rattle.rk_script.specs.KeyTests.{is_key, is_mask}
-use Rattle.rk_script.specs.Words.{is_name}
+use Rattle.rk_key.specs.KeyTests.{is_key}
+use Rattle.rk_script.specs.Words.{is_mask, is_name}
 use Rattle.rk_script.specs.declared.line.Event.{Event}
 use Rattle.rk_script.specs.declared.line.Event.TheVariants as event
 use Rattle.rk_script.specs.declared.line.Why.{Why}

@@ -1,5 +1,4 @@
 pub mod Words
-pub mod KeyTests
 pub mod Checks
 pub mod Grammar
 pub mod Seen

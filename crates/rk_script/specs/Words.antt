@@ -2,6 +2,7 @@
 use Rattle.std.specs.Prelude.{ℕ, ◌+◌, ◌-◌, ◌*◌, ◌/◌, ◌%◌, ◌==◌, nat_le, nat_lt, Bool, true, false, not, ◌&&◌, ◌||◌, List, [], ◌∷◌, length, filter, if◌then◌else◌, Option, Some, None, codes}
 use Rattle.std.specs.List.{list_all, flat_map, slice_split}
 use Rattle.std.specs.Option.{option_map, option_and_then}
+use Rattle.rk_key.specs.KeyTests.{is_digit, is_suffix}
 use Rattle.rk_model.specs.Lists.{none_of}
 use Rattle.rk_model.specs.Spans.{same_bytes}
 
@@ -36,9 +37,6 @@ is_printable b = nat_le 32 b && nat_le b 126
 
 abbrev pub is_letter : ℕ → Bool
 is_letter b = nat_le 97 b && nat_le b 122
-
-abbrev pub is_digit : ℕ → Bool
-is_digit b = nat_le 48 b && nat_le b 57
 
 -- letters, digits and '_'
 abbrev pub is_name_byte : ℕ → Bool
@@ -90,3 +88,7 @@ unescaped_bytes (b ∷ c ∷ d ∷ bs) =
 -- the bytes that a word stands for
 abbrev pub unescaped : List ℕ → Option (List ℕ)
 unescaped word = if same_bytes word (codes "%-") then Some [] else unescaped_bytes word
+
+-- a suffix that may be a mask
+abbrev pub is_mask : List ℕ → Bool
+is_mask bytes = not (none_of bytes) && is_suffix bytes

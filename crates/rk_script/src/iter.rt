@@ -2,9 +2,9 @@
 ghost use Rattle.std.specs.Prelude.{◌≡◌, IfOk, Some, None, map, option_map, if◌then◌else◌};
 ghost use Rattle.std.specs.Option.{option_copied};
 ghost use Rattle.rk_script.specs.Checks.{if_there, is_for_bytes, decoded};
-ghost use Rattle.rk_script.specs.KeyTests.{is_key, is_mask};
+ghost use Rattle.rk_key.specs.KeyTests.{is_key};
+ghost use Rattle.rk_script.specs.Words.{is_mask, is_name};
 ghost use Rattle.rk_script.specs.Grammar.{iter, opened, with_bounds, option_of, options_of, result_map};
-ghost use Rattle.rk_script.specs.Words.{is_name};
 ghost use Rattle.rk_script.specs.Seen.{words_of};
 
 use crate::escape::unescape;

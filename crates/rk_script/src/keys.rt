@@ -1,6 +1,7 @@
 // Keys and masks in the words of a line.
 ghost use Rattle.std.specs.Prelude.{◌≡◌, IfOk, Some, None, if◌then◌else◌};
-ghost use Rattle.rk_script.specs.KeyTests.{is_suffix, is_key, is_mask};
+ghost use Rattle.rk_key.specs.KeyTests.{is_suffix, is_key};
+ghost use Rattle.rk_script.specs.Words.{is_mask};
 
 use rk_key::{KeyError, Suffix, UserKey, read_key, read_suffix};
 use rk_outside::NoMemory;

@@ -5,7 +5,7 @@ use Rattle.std.specs.List.{list_all, flat_map}
 use Rattle.std.specs.Option.{option_or}
 use Rattle.std.proofs.lemmas.List.{append-nil}
 use Rattle.rk_key.specs.Laws.{key_cmp-total}
-use Rattle.rk_key.proofs.TotalOrders.{lt_itself, lt_back, ge_trans, lt_ge}
+use Rattle.rk_key.proofs.TotalOrders.{lt_itself, lt_back, ge_trans, lt_ge, ge_lt}
 use Rattle.rk_model.specs.Lists.{none_of}
 use Rattle.rk_model.specs.Operations.{within}
 use Rattle.rk_model.specs.Sources.{ascends, is_span, are_spans, are_newest_first}
@@ -16,7 +16,7 @@ use Rattle.rk_merge.specs.Unions.{Among}
 use Rattle.rk_merge.specs.Cuts.{first_behind, last_before}
 use Rattle.rk_merge.proofs.Lists.{and_parts, ascends_tail}
 use Rattle.rk_merge.proofs.Cuts.{near_is}
-use Rattle.rk_spanmerge.specs.Moves.{lt, takes, is_past, end_seen, NoneNearer}
+use Rattle.rk_spanmerge.specs.Moves.{lt, takes, is_past, end_seen, keys_met, NoneNearer}
 
 -- a span before others
 pub record Leads (s : Span) (ss : List Span) : Type 0 where
@@ -188,19 +188,50 @@ below_start : (a b : Bool) → a ≡ true → not a && b ≡ false
 below_start true b e = refl
 below_start false b e = cc
 
-abbrev pub over_seen : List ℕ → Option Span → List RangeKey
-over_seen x None = []
-over_seen x (Some s) = cond (lt x s.start) [] s.keys
-
-pub over_is : (x : List ℕ) (ss : List Span) → Chain ss → keys_over ss x ≡ over_seen x (first_behind (takes true x) ss)
+pub over_is : (x : List ℕ) (ss : List Span) → Chain ss → keys_over ss x ≡ keys_met true x (first_behind (takes true x) ss)
 over_is x [] h = refl
 over_is x (u ∷ us) h = keys_over_cons u us x ∙ go (lt x u.start) (lt x u.end) refl refl (over_is x us h.1)
   where
     rest : lt x u.end ≡ true → keys_over us x ≡ []
     rest q = none_over x us (λ t m. below_start (lt x t.start) (lt x t.end) (lt_ge key_cmp-total x u.end t.start q (h.0.later t m)))
 
-    go : (a b : Bool) → lt x u.start ≡ a → lt x u.end ≡ b → keys_over us x ≡ over_seen x (first_behind (takes true x) us) → cond (not a && b) u.keys [] ++ keys_over us x ≡ over_seen x (cond (not b) (first_behind (takes true x) us) (Some u))
+    go : (a b : Bool) → lt x u.start ≡ a → lt x u.end ≡ b → keys_over us x ≡ keys_met true x (first_behind (takes true x) us) → cond (not a && b) u.keys [] ++ keys_over us x ≡ keys_met true x (cond (not b) (first_behind (takes true x) us) (Some u))
     go true true p q ih = rest q ∙ ap (λ c. cond c [] u.keys) (sym p)
     go false true p q ih = ap (λ r. u.keys ++ r) (rest q) ∙ append-nil u.keys ∙ ap (λ c. cond c [] u.keys) (sym p)
     go true false p q ih = ih
     go false false p q ih = ih
+
+outside_end : (a b : Bool) → b ≡ false → not a && b ≡ false
+outside_end true b e = refl
+outside_end false b e = e
+
+pub inside : (a b : Bool) → a ≡ false → b ≡ true → not a && b ≡ true
+inside a b p q = rw (p, q) refl
+
+-- the same back, where no end is between
+pub over_back : (y e : List ℕ) (ss : List Span) → Chain ss → lt e y ≡ true → ((t : Span) → Among t ss → Nearest false y e t) → keys_over ss e ≡ keys_met false y (last_before (takes false y) ss)
+over_back y e [] h l near = refl
+over_back y e (u ∷ us) h l near = keys_over_cons u us e ∙ go (lt u.start y) refl (last_before (takes false y) us) refl (over_back y e us h.1 l (λ t m. near t (inr m)))
+  where
+    own : Nearest false y e u
+    own = near u (inl refl)
+
+    behind_all : ((t : Span) → Among t us → lt t.start y ≡ false) → keys_over us e ≡ []
+    behind_all out = none_over e us (λ t m. below_start (lt e t.start) (lt e t.end) (lt_ge key_cmp-total e y t.start l (out t m)))
+
+    put : (w : Bool) (rest : List RangeKey) → within u.start u.end e ≡ w → keys_over us e ≡ rest → cond (within u.start u.end e) u.keys [] ++ keys_over us e ≡ cond w u.keys [] ++ rest
+    put w rest p q = ap (λ b. cond b u.keys [] ++ keys_over us e) p ∙ ap (λ r. cond w u.keys [] ++ r) q
+
+    last : (b : Bool) → lt u.end y ≡ b → lt u.start y ≡ true → keys_over us e ≡ [] → cond (within u.start u.end e) u.keys [] ++ keys_over us e ≡ cond b [] u.keys
+    last true p q rest = put false [] (outside_end (lt e u.start) (lt e u.end) (own.1 p)) rest
+    last false p q rest = put true [] (inside (lt e u.start) (lt e u.end) (own.0 q) (lt_ge key_cmp-total e y u.end l p)) rest ∙ append-nil u.keys
+
+    go : (b : Bool) → lt u.start y ≡ b → (r : Option Span) → last_before (takes false y) us ≡ r → keys_over us e ≡ keys_met false y r → cond (within u.start u.end e) u.keys [] ++ keys_over us e ≡ keys_met false y (cond b (option_or r (Some u)) None)
+    go false q r p ih =
+        put false [] (below_start (lt e u.start) (lt e u.end) (lt_ge key_cmp-total e y u.start l q))
+        (behind_all (λ t m. ge_trans key_cmp-total t.start u.start y (behind u us h t m).start_start q))
+    go true q None p ih = last (lt u.end y) refl q (behind_all (λ t m. (back_none y us h.1 p t m).0))
+    go true q (Some s) p ih =
+        let found = near_is false (takes false y) us s p in
+        let past : lt u.end y ≡ true = ge_lt key_cmp-total u.end s.start y (h.0.later s found.1) found.0 in
+        put false (keys_met false y (Some s)) (outside_end (lt e u.start) (lt e u.end) (own.1 past)) ih

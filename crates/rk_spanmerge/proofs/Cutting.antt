@@ -14,15 +14,18 @@ use Rattle.rk_model.specs.Operations.{within}
 use Rattle.rk_model.specs.Spans.{sorted_keys, same_bytes}
 use Rattle.rk_model.specs.declared.span.RangeKey.{RangeKey}
 use Rattle.rk_model.specs.declared.span.Span.{Span}
-use Rattle.rk_fragment.specs.Fragments.{keys_over, newest_first, span_with}
+use Rattle.rk_fragment.specs.Fragments.{keys_over, newest_first, span_with, spans_between}
 use Rattle.rk_fragment.specs.Intervals.{Rises}
 use Rattle.rk_fragment.proofs.Rising.{sorted_rises}
 use Rattle.rk_merge.specs.Unions.{Among}
-use Rattle.rk_spanmerge.specs.Merges.{span_ends, keys_at, spans_between, ReadKeysAreDistinct, EachKeyHasItsRangeKeys}
+use Rattle.rk_fragment.proofs.Falling.{newest_falls}
+use Rattle.rk_fragment.proofs.Sound.{sound_between, falling_ascends}
+use Rattle.rk_spanmerge.specs.Merges.{span_ends, keys_at, ReadKeysAreDistinct, EachKeyHasItsRangeKeys, CutSpansAreSpans}
 use Rattle.rk_spanmerge.specs.Moves.{lt}
 use Rattle.rk_spanmerge.proofs.Chains.{keys_over_cons, none_over}
-use Rattle.rk_spanmerge.proofs.Ends.{IsNext, next_first, next_more, sorted_has, all_among}
-use Rattle.rk_spanmerge.proofs.Shown.{ends_in}
+use Rattle.rk_spanmerge.proofs.Ends.{IsNext, next_first, next_more, sorted_has}
+use Rattle.rk_model.proofs.Members.{among_all}
+use Rattle.rk_spanmerge.proofs.Pools.{ends_in}
 
 apart : (x y : List ℕ) → IsKey x → IsKey y → not (is_eq (key_cmp x y)) || same_bytes x y ≡ true
 apart x y p q = go (is_eq (key_cmp x y)) refl
@@ -114,7 +117,7 @@ each_key ss x distinct = go (sorted_keys (span_ends ss)) (sorted_rises (span_end
       where
         first : lt x a ≡ true → (k : List ℕ) → Among k (a ∷ rest) → lt x k ≡ true
         first l k (inl e) = ap (lt x) e ∙ l
-        first l k (inr m) = lt_trans key_cmp-total x a k l (all_among (λ y. lt a y ≡ true) rest h.0 k m)
+        first l k (inr m) = lt_trans key_cmp-total x a k l (among_all (λ y. lt a y ≡ true) rest k h.0 m)
 
         mid : (b c : List ℕ) → IsNext (a ∷ rest) b c → lt x b ≡ false → lt x c ≡ true → keys_at ss b ≡ keys_at ss x
         mid b c n p q = ap newest_first (same_within ss b x (λ k m. side k (has k m) (lt b k) refl))
@@ -126,3 +129,7 @@ each_key ss x distinct = go (sorted_keys (span_ends ss)) (sorted_rises (span_end
         pick : (t : Bool) → lt x a ≡ t → keys_over (spans_between (keys_at ss) (a ∷ rest)) x ≡ keys_at ss x
         pick true l = below_all (keys_at ss) x a rest h l ∙ no_keys (λ t m. outside_start (lt x t.start) (lt x t.end) (first l t.start (has t.start (ends_in ss t m).0)))
         pick false l = from_end (keys_at ss) x a rest h l mid (λ all. no_keys (λ t m. outside_end (lt x t.start) (lt x t.end) (all t.end (has t.end (ends_in ss t m).1))))
+
+pub cut_spans-sound : CutSpansAreSpans
+cut_spans-sound ss differ =
+    sound_between (keys_at ss) (λ x. falling_ascends (keys_at ss x) (newest_falls (keys_over ss x) (differ x))) (sorted_keys (span_ends ss)) (sorted_rises (span_ends ss))

@@ -2,7 +2,7 @@
 use Rattle.std.proofs.Common.{◌≡◌, ℕ, Bool, true, false, not, cond, List, [], ◌∷◌, Some, None, refl, ap, sym, ◌∙◌, ◌⊎◌, inl, inr, subst}
 use Rattle.std.specs.Prelude.{◌||◌}
 use Rattle.std.specs.declared.cmp.Ordering.TheVariants.{Equal}
-use Rattle.std.specs.List.{AllByRecursion, list_all, cons_option}
+use Rattle.std.specs.List.{list_all, cons_option}
 use Rattle.std.specs.Ordering.{is_eq}
 use Rattle.std.proofs.lemmas.Cmp.{tied_itself}
 use Rattle.rk_key.specs.Keys.{key_cmp}
@@ -12,26 +12,16 @@ use Rattle.rk_model.specs.Lists.{none_of}
 use Rattle.rk_model.specs.Spans.{insert_key, sorted_keys, same_bytes}
 use Rattle.rk_model.specs.declared.span.RangeKey.{RangeKey}
 use Rattle.rk_model.specs.declared.span.Span.{Span}
-use Rattle.rk_fragment.specs.Fragments.{span_with}
+use Rattle.rk_fragment.specs.Fragments.{span_with, spans_between}
 use Rattle.rk_fragment.specs.Intervals.{Rises}
 use Rattle.rk_merge.specs.Unions.{Among}
+use Rattle.rk_model.proofs.Members.{among_all, every_gives}
 use Rattle.rk_merge.specs.Cuts.{first_behind, last_before}
-use Rattle.rk_merge.proofs.Lists.{and_parts}
 use Rattle.std.proofs.lemmas.Slice.Eq.{bytes_eq-Decides}
 use Rattle.std.proofs.lemmas.Map.Text.{is_eq-slice_cmp}
-use Rattle.rk_spanmerge.specs.Merges.{are_distinct, spans_between}
+use Rattle.rk_spanmerge.specs.Merges.{are_distinct}
 use Rattle.rk_spanmerge.specs.Moves.{lt, takes}
 use Rattle.rk_spanmerge.proofs.Chains.{true_false}
-
-pub all_among : {X : Type 0} (P : X → Type 0) (xs : List X) → AllByRecursion P xs → (x : X) → Among x xs → P x
-all_among P [] h x m = absurd m
-all_among {X} P (y ∷ ys) h x (inl e) = rw e h.0
-all_among P (y ∷ ys) h x (inr m) = all_among P ys h.1 x m
-
-pub list_all_among : {X : Type 0} (p : X → Bool) (xs : List X) → list_all p xs ≡ true → (x : X) → Among x xs → p x ≡ true
-list_all_among p [] h x m = absurd m
-list_all_among p (y ∷ ys) h x (inl e) = ap p e ∙ (and_parts (p y) (list_all p ys) h).0
-list_all_among p (y ∷ ys) h x (inr m) = list_all_among p ys (and_parts (p y) (list_all p ys) h).1 x m
 
 -- sorted keys are the keys
 insert_from : (x : List ℕ) (ys : List (List ℕ)) (k : List ℕ) → Among k (insert_key x ys) → Among k (x ∷ ys)
@@ -88,8 +78,8 @@ same_is x y e = (bytes_eq-Decides x y).0 (sym (is_eq-slice_cmp x y) ∙ e)
 
 pub distinct_is : (xs : List (List ℕ)) → are_distinct xs ≡ true → (a b : List ℕ) → Among a xs → Among b xs → key_cmp a b ≡ Equal → a ≡ b
 distinct_is xs all a b m n e =
-    let one = list_all_among (λ x. list_all (λ y. not (is_eq (key_cmp x y)) || same_bytes x y) xs) xs all a m in
-    let two : not (is_eq (key_cmp a b)) || same_bytes a b ≡ true = list_all_among (λ y. not (is_eq (key_cmp a y)) || same_bytes a y) xs one b n in
+    let one = every_gives (λ x. list_all (λ y. not (is_eq (key_cmp x y)) || same_bytes x y) xs) xs a all m in
+    let two : not (is_eq (key_cmp a b)) || same_bytes a b ≡ true = every_gives (λ y. not (is_eq (key_cmp a y)) || same_bytes a y) xs b one n in
     same_is a b (go (is_eq (key_cmp a b)) (ap is_eq e) two)
   where
     go : (t : Bool) → t ≡ true → not t || same_bytes a b ≡ true → same_bytes a b ≡ true
@@ -106,8 +96,8 @@ sorted_has xs all k m =
 pub rising_same : (es : List (List ℕ)) → Rises es → (a b : List ℕ) → Among a es → Among b es → lt a b ≡ false → lt b a ≡ false → a ≡ b
 rising_same [] h a b m n p q = absurd m
 rising_same (x ∷ xs) h a b (inl e) (inl f) p q = e ∙ sym f
-rising_same (x ∷ xs) h a b (inl e) (inr n) p q = let w : lt a b ≡ true = ap (λ z. lt z b) e ∙ all_among (λ y. lt x y ≡ true) xs h.0 b n in cc
-rising_same (x ∷ xs) h a b (inr m) (inl f) p q = let w : lt b a ≡ true = ap (λ z. lt z a) f ∙ all_among (λ y. lt x y ≡ true) xs h.0 a m in cc
+rising_same (x ∷ xs) h a b (inl e) (inr n) p q = let w : lt a b ≡ true = ap (λ z. lt z b) e ∙ among_all (λ y. lt x y ≡ true) xs b h.0 n in cc
+rising_same (x ∷ xs) h a b (inr m) (inl f) p q = let w : lt b a ≡ true = ap (λ z. lt z a) f ∙ among_all (λ y. lt x y ≡ true) xs a h.0 m in cc
 rising_same (x ∷ xs) h a b (inr m) (inr n) p q = rising_same xs h.1 a b m n p q
 
 -- the next key of some
@@ -122,7 +112,7 @@ next_tail a es h q c m n = record { at = m; to = go n.to; less = n.less; first =
   where
     go : Among c (a ∷ es) → Among c es
     go (inl e) =
-        let w : lt c q ≡ true = ap (λ z. lt z q) e ∙ all_among (λ y. lt a y ≡ true) es h.0 q m in
+        let w : lt c q ≡ true = ap (λ z. lt z q) e ∙ among_all (λ y. lt a y ≡ true) es q h.0 m in
         absurd (true_false _ n.less (lt_back key_cmp-total c q w))
     go (inr i) = i
 
@@ -131,7 +121,7 @@ next_more a es h q c n = record { at = inr n.at; to = inr n.to; less = n.less; f
   where
     go : (k : List ℕ) → Among k (a ∷ es) → lt q k ≡ true → lt k c ≡ false
     go k (inl e) l =
-        let w : lt k q ≡ true = ap (λ z. lt z q) e ∙ all_among (λ y. lt a y ≡ true) es h.0 q n.at in
+        let w : lt k q ≡ true = ap (λ z. lt z q) e ∙ among_all (λ y. lt a y ≡ true) es q h.0 n.at in
         absurd (true_false _ l (lt_back key_cmp-total k q w))
     go k (inr i) l = n.first k i l
 
@@ -142,7 +132,7 @@ next_first a b bs h = record { at = inl refl; to = inr (inl refl); less = h.0.0;
     go : (k : List ℕ) → Among k (a ∷ b ∷ bs) → lt a k ≡ true → lt k b ≡ false
     go k (inl e) l = let w : lt a k ≡ false = ap (lt a) e ∙ lt_itself key_cmp-total a in cc
     go k (inr (inl e)) l = ap (λ z. lt z b) e ∙ lt_itself key_cmp-total b
-    go k (inr (inr i)) l = lt_back key_cmp-total b k (all_among (λ y. lt b y ≡ true) bs h.1.0 k i)
+    go k (inr (inr i)) l = lt_back key_cmp-total b k (among_all (λ y. lt b y ≡ true) bs k h.1.0 i)
 
 -- and no other is
 next_is : (a b : List ℕ) (bs : List (List ℕ)) → Rises (a ∷ b ∷ bs) → (c : List ℕ) → IsNext (a ∷ b ∷ bs) a c → c ≡ b
@@ -151,7 +141,22 @@ next_is a b bs h c n = go n.to
     go : Among c (a ∷ b ∷ bs) → c ≡ b
     go (inl e) = let w : lt a c ≡ false = ap (lt a) e ∙ lt_itself key_cmp-total a in absurd (true_false _ n.less w)
     go (inr (inl e)) = e
-    go (inr (inr i)) = let w : lt b c ≡ true = all_among (λ y. lt b y ≡ true) bs h.1.0 c i in absurd (true_false _ w (n.first b (inr (inl refl)) h.0.0))
+    go (inr (inr i)) = let w : lt b c ≡ true = among_all (λ y. lt b y ≡ true) bs c h.1.0 i in absurd (true_false _ w (n.first b (inr (inl refl)) h.0.0))
+
+-- the spans between neighbours
+pub between_next : (keys : List ℕ → List RangeKey) (es : List (List ℕ)) → Rises es → (c : Span) → Among c (spans_between keys es) → IsNext es c.start c.end × (c.keys ≡ keys c.start) × (none_of c.keys ≡ false)
+between_next keys [] h c m = absurd m
+between_next keys (a ∷ []) h c m = absurd m
+between_next keys (a ∷ b ∷ bs) h c m = go (keys a) refl m (between_next keys (b ∷ bs) h.1 c)
+  where
+    later : IsNext (b ∷ bs) c.start c.end × (c.keys ≡ keys c.start) × (none_of c.keys ≡ false) → IsNext (a ∷ b ∷ bs) c.start c.end × (c.keys ≡ keys c.start) × (none_of c.keys ≡ false)
+    later r = (next_more a (b ∷ bs) h c.start c.end r.0, r.1, r.2)
+
+    go : (ks : List RangeKey) → keys a ≡ ks → Among c (cons_option (span_with a b ks) (spans_between keys (b ∷ bs))) → (Among c (spans_between keys (b ∷ bs)) → IsNext (b ∷ bs) c.start c.end × (c.keys ≡ keys c.start) × (none_of c.keys ≡ false))
+        → IsNext (a ∷ b ∷ bs) c.start c.end × (c.keys ≡ keys c.start) × (none_of c.keys ≡ false)
+    go [] q n ih = later (ih n)
+    go (k ∷ ks) q (inl e) ih = rw e (next_first a b bs h, sym q, refl)
+    go (k ∷ ks) q (inr n) ih = later (ih n)
 
 module _ (keys : List ℕ → List RangeKey) (x : List ℕ) where
   abbrev pub span_at : List ℕ → List ℕ → Span
@@ -189,7 +194,7 @@ module _ (keys : List ℕ → List RangeKey) (x : List ℕ) where
           rw (e, f) (first_here a b (keys a) (spans_between keys (b ∷ bs)) k' l')
 
       skips : Among q (b ∷ bs) → (t : Bool) → lt x b ≡ t → (none_of (keys a) ≡ true) ⊎ (lt x b ≡ false)
-      skips m true e = inl (quiet a b (next_first a b bs h) (all_among (λ y. lt a y ≡ true) (b ∷ bs) h.0 q m) e)
+      skips m true e = inl (quiet a b (next_first a b bs h) (among_all (λ y. lt a y ≡ true) (b ∷ bs) q h.0 m) e)
       skips m false e = inr e
 
       go : Among q (a ∷ b ∷ bs) → (Among q (b ∷ bs) → first_behind (takes true x) (spans_between keys (b ∷ bs)) ≡ Some (span_at q c)) → first_behind (takes true x) (spans_between keys (a ∷ b ∷ bs)) ≡ Some (span_at q c)
@@ -240,11 +245,11 @@ module _ (keys : List ℕ → List RangeKey) (x : List ℕ) where
           let f = next_is a b bs h c n' in
           let k' : none_of (keys a) ≡ false = subst (λ z. none_of (keys z) ≡ false) e k in
           let l' : lt a x ≡ true = subst (λ z. lt z x ≡ true) e l in
-          let none = last_nowhere (b ∷ bs) (λ z m. quiet z (inr m) (ap (λ w. lt w z) e ∙ all_among (λ y. lt a y ≡ true) (b ∷ bs) h.0 z m)) in
+          let none = last_nowhere (b ∷ bs) (λ z m. quiet z (inr m) (ap (λ w. lt w z) e ∙ among_all (λ y. lt a y ≡ true) (b ∷ bs) z h.0 m)) in
           rw (e, f) (last_here a b (keys a) (spans_between keys (b ∷ bs)) k' l' none)
 
       go : Among q (a ∷ b ∷ bs) → (Among q (b ∷ bs) → last_before (takes false x) (spans_between keys (b ∷ bs)) ≡ Some (span_at q c)) → last_before (takes false x) (spans_between keys (a ∷ b ∷ bs)) ≡ Some (span_at q c)
       go (inl e) ih = at_first e
       go (inr m) ih =
-          let before = all_among (λ y. lt a y ≡ true) (b ∷ bs) h.0 q m in
+          let before = among_all (λ y. lt a y ≡ true) (b ∷ bs) q h.0 m in
           last_later a b (keys a) (spans_between keys (b ∷ bs)) (span_at q c) (lt_trans key_cmp-total a q x before l) (ih m)

@@ -1,5 +1,5 @@
 -- Worked examples: what the definitions give on short lists of spans. Each is computed.
-use Rattle.std.proofs.Common.{◌≡◌, ℕ, List, [], ◌∷◌, Some, None, refl}
+use Rattle.std.proofs.Common.{◌≡◌, true, ℕ, List, [], ◌∷◌, Some, None, refl}
 use Rattle.std.specs.Prelude.{codes}
 use Rattle.rk_model.specs.declared.span.RangeKey.{RangeKey}
 use Rattle.rk_model.specs.declared.span.RangeKind.TheVariants.{Del}
@@ -44,5 +44,5 @@ a_merge_that_is_told = refl
 one_number_twice : united (λ spans. in_memory 1 (sound_spans spans) None) (lists 1) ≡ None
 one_number_twice = refl
 
-its_second_place : (merged (λ spans. in_memory 1 (sound_spans spans) None) (lists 2) (Some (span (codes "b") (codes "c") (key 2 ∷ key 1 ∷ []))) 0).place ≡ Some 1
+its_second_place : (merged (λ spans. in_memory 1 (sound_spans spans) None) (lists 2) (Some (span (codes "b") (codes "c") (key 2 ∷ key 1 ∷ []))) true 0).place ≡ Some 1
 its_second_place = refl

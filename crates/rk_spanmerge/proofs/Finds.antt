@@ -1,23 +1,25 @@
--- The span that a seek of the merge goes to.
-use Rattle.std.proofs.Common.{◌≡◌, ℕ, Bool, true, false, not, ◌&&◌, cond, List, [], ◌∷◌, ◌++◌, Option, Some, None, is_some, IfSome, refl, ap, sym, ◌∙◌, ◌⊎◌, inl, inr, subst, get_or}
-use Rattle.std.specs.Prelude.{nat_lt, IsTrue}
+-- The span of the merge next to a key.
+use Rattle.std.proofs.Common.{◌≡◌, ℕ, Bool, true, false, not, ◌&&◌, cond, List, [], ◌∷◌, ◌++◌, Option, Some, None, unwrap_or, length, refl, ap, sym, ◌∙◌, ◌⊎◌, inl, inr, subst}
+use Rattle.std.specs.Prelude.{nat_lt}
 use Rattle.rk_key.specs.Laws.{key_cmp-total}
-use Rattle.rk_key.proofs.TotalOrders.{lt_itself, lt_trans, lt_ge}
+use Rattle.rk_key.proofs.TotalOrders.{lt_itself, lt_back, lt_trans, lt_ge, ge_lt, ge_trans}
 use Rattle.rk_model.specs.Lists.{none_of}
 use Rattle.rk_model.specs.Operations.{within}
 use Rattle.rk_model.specs.Spans.{sorted_keys}
-use Rattle.rk_model.specs.Sources.{Seen, are_spans}
+use Rattle.rk_model.specs.Sources.{item_at}
 use Rattle.rk_model.specs.declared.span.RangeKey.{RangeKey}
 use Rattle.rk_model.specs.declared.span.Span.{Span}
 use Rattle.rk_fragment.specs.Fragments.{insert_newest, newest_first, keys_over}
+use Rattle.rk_fragment.specs.Intervals.{Rises}
 use Rattle.rk_fragment.proofs.Rising.{sorted_rises}
 use Rattle.rk_merge.specs.Unions.{Among}
-use Rattle.rk_merge.specs.Cuts.{near_cut}
-use Rattle.rk_spanmerge.specs.Merges.{span_ends, keys_at, cut_spans, are_distinct, told_items, pooled, united}
-use Rattle.rk_spanmerge.specs.Moves.{lt, takes, IsNearestEnd, Shows, ShowsFirst, Either, ShowsAround, ShowsBefore}
-use Rattle.rk_spanmerge.proofs.Chains.{Chain, chain_of, proper_of, keys_over_cons, true_false}
-use Rattle.rk_spanmerge.proofs.Ends.{sorted_from, sorted_has, rising_same, IsNext, first_at, first_nowhere, last_at, last_nowhere}
-use Rattle.rk_spanmerge.proofs.Shown.{whole, told_at, told_if, ends_in, ends_from, all_pool}
+use Rattle.rk_merge.specs.Cuts.{near_cut, place_near}
+use Rattle.rk_merge.proofs.Cuts.{near_item, cut_agree}
+use Rattle.rk_spanmerge.specs.Merges.{span_ends, keys_at, cut_spans, are_distinct}
+use Rattle.rk_spanmerge.specs.Moves.{lt, takes, first_end, IsNearestEnd, IsBare, IsBetween, Shows}
+use Rattle.rk_spanmerge.proofs.Chains.{keys_over_cons, inside, true_false}
+use Rattle.rk_spanmerge.proofs.Ends.{sorted_from, sorted_has, rising_same, IsNext, between_next, first_at, first_nowhere, last_at, last_nowhere}
+use Rattle.rk_spanmerge.proofs.Pools.{ends_in, ends_from}
 
 none_newest : (ks : List RangeKey) → none_of (newest_first ks) ≡ none_of ks
 none_newest [] = refl
@@ -55,19 +57,23 @@ over_from (s ∷ ss) x e = go (within s.start s.end x) refl (ap none_of (sym (ke
     go true q e ih = (s, inl refl, q)
     go false q e ih = let r = ih e in (r.0, inr r.1, r.2)
 
-inside : (a b : Bool) → a ≡ false → b ≡ true → not a && b ≡ true
-inside a b p q = rw (p, q) refl
-
 inside_end : (a b : Bool) → not a && b ≡ true → b ≡ true
 inside_end true b e = cc
 inside_end false b e = e
 
-span_is : (c : Span) (u : List ℕ) (ks : List RangeKey) → c.start ≡ u → c.keys ≡ ks → Some c ≡ Some (record { start = u; end = c.end; keys = ks })
-span_is c u ks e f = rw (← e, ← f) refl
+span_is : (c : Span) (ks : List RangeKey) → c.keys ≡ ks → Some c ≡ Some (record { start = c.start; end = c.end; keys = ks })
+span_is c ks f = rw (← f) refl
+
+-- tests that agree on the items of a list show one item of it
+near_agree : (ahead : Bool) (t u : Span → Bool) (xs : List Span) → ((c : Span) → Among c xs → t c ≡ u c) → near_cut ahead t xs ≡ near_cut ahead u xs
+near_agree ahead t u xs same = sym (near_item ahead t xs) ∙ ap (λ n. item_at xs (place_near ahead n (length xs))) (cut_agree t u xs same) ∙ near_item ahead u xs
 
 module _ (pool : List Span) (distinct : are_distinct (span_ends pool) ≡ true) (proper : (t : Span) → Among t pool → (lt t.start t.end ≡ true) × (none_of t.keys ≡ false)) where
   abbrev es : List (List ℕ)
   es = sorted_keys (span_ends pool)
+
+  rises : Rises es
+  rises = sorted_rises (span_ends pool)
 
   has : (k : List ℕ) → Among k (span_ends pool) → Among k es
   has k m = sorted_has (span_ends pool) distinct k m
@@ -78,230 +84,171 @@ module _ (pool : List Span) (distinct : are_distinct (span_ends pool) ≡ true) 
   keyed : (t : Span) → Among t pool → (x : List ℕ) → lt x t.start ≡ false → lt x t.end ≡ true → none_of (keys_at pool x) ≡ false
   keyed t m x p q = none_newest (keys_over pool x) ∙ over_some pool x t m (proper t m).1 (inside (lt x t.start) (lt x t.end) p q)
 
-  next_of : (u c : List ℕ) → Among u (span_ends pool) → IsNearestEnd true u (span_ends pool) (Some c) → IsNext es u c
-  next_of u c m n = record { at = has u m; to = has c n.among.0; less = n.among.1; first = λ k i l. n.nearest k (from k i) l }
+  nearest_same : (ahead : Bool) (x a b : List ℕ) → IsNearestEnd ahead x (span_ends pool) (Some a) → IsNearestEnd ahead x (span_ends pool) (Some b) → a ≡ b
+  nearest_same true x a b n o = rising_same es rises a b (has a n.among.0) (has b o.among.0) (o.nearest a n.among.0 n.among.1) (n.nearest b o.among.0 o.among.1)
+  nearest_same false x a b n o = rising_same es rises a b (has a n.among.0) (has b o.among.0) (n.nearest b o.among.0 o.among.1) (o.nearest a n.among.0 n.among.1)
 
-  -- where nothing is shown there is no range key
-  keyless : (u : List ℕ) → Shows pool u None → none_of (keys_at pool u) ≡ true
-  keyless u (inl e) = e
-  keyless u (inr n) = go (none_of (keys_at pool u)) refl
+  pub bare_at : (ahead : Bool) (x e : List ℕ) → IsNearestEnd ahead x (span_ends pool) (Some e) → IsBare ahead pool x → none_of (keys_at pool (first_end ahead x e)) ≡ true
+  bare_at ahead x e n b = subst (λ z. none_of (keys_at pool (first_end ahead x z)) ≡ true) (nearest_same ahead x b.end e b.nearest n) b.bare
+
+  next_ahead : (c : Span) → Among c.start (span_ends pool) → IsBetween true pool c.start c → IsNext es c.start c.end
+  next_ahead c m b = record { at = has c.start m; to = has c.end b.nearest.among.0; less = b.nearest.among.1; first = λ k i l. b.nearest.nearest k (from k i) l }
+
+  next_back : (c : Span) → Among c.end (span_ends pool) → IsBetween false pool c.end c → IsNext es c.start c.end
+  next_back c m b = record { at = has c.start b.nearest.among.0; to = has c.end m; less = b.nearest.among.1; first = λ k i l. go k i l (lt k c.end) refl }
     where
-      go : (b : Bool) → none_of (keys_at pool u) ≡ b → b ≡ true
-      go true e = refl
-      go false e =
-          let f = over_from pool u (sym (none_newest (keys_over pool u)) ∙ e) in
-          let past : lt u f.0.end ≡ true = inside_end (lt u f.0.start) (lt u f.0.end) f.2 in
-          absurd (true_false _ past (n.nearest f.0.end (ends_in pool f.0 f.1).1))
+      go : (k : List ℕ) → Among k es → lt c.start k ≡ true → (t : Bool) → lt k c.end ≡ t → t ≡ false
+      go k i l true e = absurd (true_false _ l (b.nearest.nearest k (from k i) e))
+      go k i l false e = refl
 
-  shown_is : (u : List ℕ) (s : Span) → Shows pool u (Some s) → Some (record { start = u; end = s.end; keys = keys_at pool u }) ≡ Some s
-  shown_is u s shows = sym (span_is s u (keys_at pool u) shows.0 shows.1)
+  some_keys : (ahead : Bool) (x : List ℕ) (c : Span) → IsBetween ahead pool x c → none_of (keys_at pool c.start) ≡ false
+  some_keys ahead x c b = ap none_of (sym b.keys) ∙ b.some
 
-  shown_keyed : (u : List ℕ) (s : Span) → Shows pool u (Some s) → none_of (keys_at pool u) ≡ false
-  shown_keyed u s shows = ap none_of (sym shows.1) ∙ shows.2
+  span_there : (ahead : Bool) (x : List ℕ) (c : Span) → IsBetween ahead pool x c → Some (record { start = c.start; end = c.end; keys = keys_at pool c.start }) ≡ Some c
+  span_there ahead x c b = sym (span_is c (keys_at pool c.start) b.keys)
 
-  -- an end is a start, or it is the end of a span
-  some_end : (k : List ℕ) → Among k (span_ends pool) → none_of (keys_at pool k) ≡ true → (t : Span) × Among t pool × (k ≡ t.end)
-  some_end k m none = let f = ends_from pool k m in go f.0 f.1 f.2
+  -- the span between an end and the next one
+  first_from : (c : Span) → Among c.start (span_ends pool) → IsBetween true pool c.start c → Some c ≡ near_cut true (takes true c.start) (cut_spans pool)
+  first_from c m b =
+      let next = next_ahead c m b in
+      sym (first_at (keys_at pool) c.start es rises c.start c.end next next.less (some_keys true c.start c b) quiet ∙ span_there true c.start c b)
     where
-      go : (t : Span) → Among t pool → (k ≡ t.start) ⊎ (k ≡ t.end) → (t : Span) × Among t pool × (k ≡ t.end)
-      go t i (inl e) =
-          let a : lt k t.start ≡ false = ap (λ z. lt z t.start) e ∙ lt_itself key_cmp-total t.start in
-          let b : lt k t.end ≡ true = ap (λ z. lt z t.end) e ∙ (proper t i).0 in
-          absurd (true_false _ none (keyed t i k a b))
-      go t i (inr e) = (t, i, e)
+      quiet : (a d : List ℕ) → IsNext es a d → lt a c.start ≡ true → lt c.start d ≡ true → none_of (keys_at pool a) ≡ true
+      quiet a d n l w = absurd (true_false _ w (n.first c.start (has c.start m) l))
 
-  module _ (x : List ℕ) where
-    pub ge_none : IsNearestEnd true x (span_ends pool) None → near_cut true (takes true x) (cut_spans pool) ≡ None
-    ge_none n = first_nowhere (keys_at pool) x es (λ b m. n.nearest b (from b m))
+  last_upto : (c : Span) → Among c.end (span_ends pool) → IsBetween false pool c.end c → Some c ≡ near_cut false (takes false c.end) (cut_spans pool)
+  last_upto c m b =
+      let next = next_back c m b in
+      sym (last_at (keys_at pool) c.end es rises c.start c.end next next.less (some_keys false c.end c b) (λ a i l w. absurd (true_false _ w (next.first a i l))) ∙ span_there false c.end c b)
 
-    ge_before : (c u : List ℕ) (s : Span) → IsNearestEnd true x (span_ends pool) (Some c) → IsNearestEnd false c (span_ends pool) (Some u) → Shows pool u (Some s) → near_cut true (takes true x) (cut_spans pool) ≡ Some s
-    ge_before c u s n1 n2 shows =
-        first_at (keys_at pool) x es (sorted_rises (span_ends pool)) u s.end (next_of u s.end n2.among.0 shows.3) (lt_ge key_cmp-total x c s.end n1.among.1 (far (lt s.end c) refl)) (shown_keyed u s shows) quiet
-        ∙ shown_is u s shows
-      where
-        far : (b : Bool) → lt s.end c ≡ b → lt s.end c ≡ false
-        far true e = absurd (true_false _ shows.3.among.1 (n2.nearest s.end shows.3.among.0 e))
-        far false e = e
+  pub at_once : (ahead : Bool) (x : List ℕ) (c : Span) → Among x (span_ends pool) → IsBetween ahead pool x c → Some c ≡ near_cut ahead (takes ahead x) (cut_spans pool)
+  at_once true x c m b = subst (λ z. Among z (span_ends pool) → IsBetween true pool z c → Some c ≡ near_cut true (takes true z) (cut_spans pool)) b.from (first_from c) m b
+  at_once false x c m b = subst (λ z. Among z (span_ends pool) → IsBetween false pool z c → Some c ≡ near_cut false (takes false z) (cut_spans pool)) b.from (last_upto c) m b
 
-        quiet : (a b : List ℕ) → IsNext es a b → lt a u ≡ true → lt x b ≡ true → none_of (keys_at pool a) ≡ true
-        quiet a b next l w =
-            let p : lt u b ≡ false = next.first u (has u n2.among.0) l in
-            let q : lt b c ≡ false = n1.nearest b (from b next.to) w in
-            absurd (true_false _ (lt_ge key_cmp-total u c b n2.among.1 q) p)
-
-    abbrev Bare : List ℕ → Option (List ℕ) → Type 0
-    Bare c start = IsNearestEnd false c (span_ends pool) start × IfSome start (λ u. none_of (keys_at pool u) ≡ true)
-
-    ge_from : (c : List ℕ) (s : Span) (start : Option (List ℕ)) → IsNearestEnd true x (span_ends pool) (Some c) → Bare c start → Shows pool c (Some s) → near_cut true (takes true x) (cut_spans pool) ≡ Some s
-    ge_from c s start n1 bare shows =
-        first_at (keys_at pool) x es (sorted_rises (span_ends pool)) c s.end (next_of c s.end n1.among.0 shows.3) (lt_trans key_cmp-total x c s.end n1.among.1 shows.3.among.1) (shown_keyed c s shows) (quiet start bare)
-        ∙ shown_is c s shows
-      where
-        quiet : (start : Option (List ℕ)) → Bare c start → (a b : List ℕ) → IsNext es a b → lt a c ≡ true → lt x b ≡ true → none_of (keys_at pool a) ≡ true
-        quiet None n a b next l w = absurd (true_false _ l (n.0.nearest a (from a next.at)))
-        quiet (Some u) n a b next l w = go (lt a u) refl
-          where
-            go : (t : Bool) → lt a u ≡ t → none_of (keys_at pool a) ≡ true
-            go true e =
-                let p : lt u b ≡ false = next.first u (has u n.0.among.0) e in
-                let q : lt b c ≡ false = n1.nearest b (from b next.to) w in
-                absurd (true_false _ (lt_ge key_cmp-total u c b n.0.among.1 q) p)
-            go false e =
-                let r : lt u a ≡ false = n.0.nearest a (from a next.at) l in
-                let same = rising_same es (sorted_rises (span_ends pool)) a u next.at (has u n.0.among.0) e r in
-                ap (λ z. none_of (keys_at pool z)) same ∙ n.1
-
-    ge_some : (c : List ℕ) (start : Option (List ℕ)) → IsNearestEnd true x (span_ends pool) (Some c) → Bare c start → Shows pool c None → ⊥
-    ge_some c start n1 bare shows = let f = some_end c n1.among.0 (keyless c shows) in go start bare f.0 f.1 f.2
-      where
-        go : (start : Option (List ℕ)) → Bare c start → (t : Span) → Among t pool → c ≡ t.end → ⊥
-        go None n t i e =
-            let l : lt t.start c ≡ true = ap (lt t.start) e ∙ (proper t i).0 in
-            true_false _ l (n.0.nearest t.start (ends_in pool t i).0)
-        go (Some u) n t i e =
-            let l : lt t.start c ≡ true = ap (lt t.start) e ∙ (proper t i).0 in
-            let a : lt u t.start ≡ false = n.0.nearest t.start (ends_in pool t i).0 l in
-            let b : lt u t.end ≡ true = ap (lt u) (sym e) ∙ n.0.among.1 in
-            true_false _ n.1 (keyed t i u a b)
-
-    pub ge_is : (c : List ℕ) (found : Option Span) → IsNearestEnd true x (span_ends pool) (Some c) → ShowsAround pool c found → found ≡ near_cut true (takes true x) (cut_spans pool)
-    ge_is c found n1 around = go around.start found around.nearest around.shows
-      where
-        go : (start : Option (List ℕ)) (found : Option Span) → IsNearestEnd false c (span_ends pool) start → Either (ShowsFirst pool start) (Shows pool c) found → found ≡ near_cut true (takes true x) (cut_spans pool)
-        go None None n s = absurd (ge_some c None n1 (n, tt) s.1)
-        go None (Some z) n (inl s) = cc
-        go None (Some z) n (inr s) = sym (ge_from c z None n1 (n, tt) s.1)
-        go (Some u) None n s = absurd (ge_some c (Some u) n1 (n, keyless u s.0) s.1)
-        go (Some u) (Some z) n (inl s) = sym (ge_before c u z n1 n s)
-        go (Some u) (Some z) n (inr s) = sym (ge_from c z (Some u) n1 (n, keyless u s.0) s.1)
-
-    pub lt_none : IsNearestEnd false x (span_ends pool) None → near_cut false (takes false x) (cut_spans pool) ≡ None
-    lt_none n = last_nowhere (keys_at pool) x es (λ a m l. absurd (true_false _ l (n.nearest a (from a m))))
-
-    lt_from : (p : List ℕ) (s : Span) → IsNearestEnd false x (span_ends pool) (Some p) → Shows pool p (Some s) → near_cut false (takes false x) (cut_spans pool) ≡ Some s
-    lt_from p s n1 shows =
-        last_at (keys_at pool) x es (sorted_rises (span_ends pool)) p s.end (next_of p s.end n1.among.0 shows.3) n1.among.1 (shown_keyed p s shows)
-        (λ a m l w. absurd (true_false _ l (n1.nearest a (from a m) w)))
-        ∙ shown_is p s shows
-
-    lt_before : (p q : List ℕ) (s : Span) → IsNearestEnd false x (span_ends pool) (Some p) → none_of (keys_at pool p) ≡ true → IsNearestEnd false p (span_ends pool) (Some q) → Shows pool q (Some s) → near_cut false (takes false x) (cut_spans pool) ≡ Some s
-    lt_before p q s n1 none n2 shows =
-        last_at (keys_at pool) x es (sorted_rises (span_ends pool)) q s.end (next_of q s.end n2.among.0 shows.3) (lt_trans key_cmp-total q p x n2.among.1 n1.among.1) (shown_keyed q s shows) quiet
-        ∙ shown_is q s shows
-      where
-        quiet : (a : List ℕ) → Among a es → lt q a ≡ true → lt a x ≡ true → none_of (keys_at pool a) ≡ true
-        quiet a m l w = go (lt a p) refl
-          where
-            go : (t : Bool) → lt a p ≡ t → none_of (keys_at pool a) ≡ true
-            go true e = absurd (true_false _ l (n2.nearest a (from a m) e))
-            go false e =
-                let r : lt p a ≡ false = n1.nearest a (from a m) w in
-                let same = rising_same es (sorted_rises (span_ends pool)) a p m (has p n1.among.0) e r in
-                ap (λ z. none_of (keys_at pool z)) same ∙ none
-
-    lt_some : (p : List ℕ) → IsNearestEnd false x (span_ends pool) (Some p) → none_of (keys_at pool p) ≡ true → ShowsBefore pool p None → ⊥
-    lt_some p n1 none before = let f = some_end p n1.among.0 none in go before.start before.nearest before.shows f.0 f.1 f.2
-      where
-        go : (start : Option (List ℕ)) → IsNearestEnd false p (span_ends pool) start → ShowsFirst pool start None → (t : Span) → Among t pool → p ≡ t.end → ⊥
-        go None n s t i e =
-            let l : lt t.start p ≡ true = ap (lt t.start) e ∙ (proper t i).0 in
-            true_false _ l (n.nearest t.start (ends_in pool t i).0)
-        go (Some q) n s t i e =
-            let l : lt t.start p ≡ true = ap (lt t.start) e ∙ (proper t i).0 in
-            let a : lt q t.start ≡ false = n.nearest t.start (ends_in pool t i).0 l in
-            let b : lt q t.end ≡ true = ap (lt q) (sym e) ∙ n.among.1 in
-            true_false _ (keyless q s) (keyed t i q a b)
-
-    pub lt_is : (p : List ℕ) (found : Option Span) → IsNearestEnd false x (span_ends pool) (Some p) → Either (Shows pool p) (ShowsBefore pool p) found → found ≡ near_cut false (takes false x) (cut_spans pool)
-    lt_is p None n1 s = absurd (lt_some p n1 (keyless p s.0) s.1)
-    lt_is p (Some z) n1 (inl s) = sym (lt_from p z n1 s)
-    lt_is p (Some z) n1 (inr s) = go s.1.start s.1.nearest s.1.shows
-      where
-        go : (start : Option (List ℕ)) → IsNearestEnd false p (span_ends pool) start → ShowsFirst pool start (Some z) → Some z ≡ near_cut false (takes false x) (cut_spans pool)
-        go None n w = cc
-        go (Some q) n w = sym (lt_before p q z n1 (keyless p s.0) n w)
-
--- a merge that is told
-module _ {S : Type 0} (seen : S → Seen Span) (sorted : (s : S) → IfSome (seen s).held (λ xs. IsTrue (are_spans xs))) (ss : List S) where
-  pool_proper : (spans : List Span) → united seen ss ≡ Some spans → (t : Span) → Among t (pooled seen ss) → (lt t.start t.end ≡ true) × (none_of t.keys ≡ false)
-  pool_proper spans u =
-      all_pool seen (λ t. (lt t.start t.end ≡ true) × (none_of t.keys ≡ false)) ss
-      (λ k d h t m. proper_of (told_items (seen (get_or ss k d))) (told_if (seen (get_or ss k d)).held (λ l. Chain l) (told_at seen ss (whole seen ss spans u).told k d h) (chains (seen (get_or ss k d)).held (sorted (get_or ss k d)))) t m)
+  -- the span behind a bare stretch
+  first_beyond : (x : List ℕ) (c : Span) → Among x (span_ends pool) → IsNearestEnd true x (span_ends pool) (Some c.start) → none_of (keys_at pool x) ≡ true → IsBetween true pool c.start c → Some c ≡ near_cut true (takes true x) (cut_spans pool)
+  first_beyond x c m n bare b =
+      let next = next_ahead c n.among.0 b in
+      sym (first_at (keys_at pool) x es rises c.start c.end next (lt_trans key_cmp-total x c.start c.end n.among.1 next.less) (some_keys true c.start c b) quiet ∙ span_there true c.start c b)
     where
-      chains : (h : Option (List Span)) → IfSome h (λ l. IsTrue (are_spans l)) → IfSome h (λ l. Chain l)
-      chains None w = tt
-      chains (Some l) w = chain_of l w
+      quiet : (a d : List ℕ) → IsNext es a d → lt a c.start ≡ true → lt x d ≡ true → none_of (keys_at pool a) ≡ true
+      quiet a d o l w = go (lt a x) (lt x a) refl refl
+        where
+          go : (s t : Bool) → lt a x ≡ s → lt x a ≡ t → none_of (keys_at pool a) ≡ true
+          go true t p q = absurd (true_false _ w (o.first x (has x m) p))
+          go false true p q = absurd (true_false _ l (n.nearest a (from a o.at) q))
+          go false false p q = ap (λ z. none_of (keys_at pool z)) (rising_same es rises a x o.at (has x m) p q) ∙ bare
 
-  found_if : (found : Option Span) (ahead : Bool) (x : List ℕ) (F : Type 0) → (are_distinct (span_ends (pooled seen ss)) ≡ true → ((t : Span) → Among t (pooled seen ss) → (lt t.start t.end ≡ true) × (none_of t.keys ≡ false)) → F → found ≡ near_cut ahead (takes ahead x) (cut_spans (pooled seen ss)))
-      → IfSome (united seen ss) (λ spans. F) → IfSome (united seen ss) (λ spans. found ≡ near_cut ahead (takes ahead x) spans)
-  found_if found ahead x F give facts = go (united seen ss) refl facts
+  last_beyond : (x : List ℕ) (c : Span) → IsNearestEnd false x (span_ends pool) (Some c.end) → none_of (keys_at pool c.end) ≡ true → IsBetween false pool c.end c → Some c ≡ near_cut false (takes false x) (cut_spans pool)
+  last_beyond x c n bare b =
+      let next = next_back c n.among.0 b in
+      sym (last_at (keys_at pool) x es rises c.start c.end next (lt_trans key_cmp-total c.start c.end x next.less n.among.1) (some_keys false c.end c b) (λ a i l w. quiet a i (next.first a i l) w) ∙ span_there false c.end c b)
     where
-      go : (u : Option (List Span)) → united seen ss ≡ u → IfSome u (λ spans. F) → IfSome u (λ spans. found ≡ near_cut ahead (takes ahead x) spans)
-      go None u f = tt
-      go (Some spans) u f =
-          let w = whole seen ss spans u in
-          give w.distinct (pool_proper spans u) f ∙ ap (near_cut ahead (takes ahead x)) w.is
+      quiet : (a : List ℕ) → Among a es → lt a c.end ≡ false → lt a x ≡ true → none_of (keys_at pool a) ≡ true
+      quiet a i p w = ap (λ z. none_of (keys_at pool z)) (rising_same es rises a c.end i (has c.end n.among.0) p (n.nearest a (from a i) w)) ∙ bare
 
-  both : (F G : Type 0) (u : Option (List Span)) → IfSome u (λ spans. F) → IfSome u (λ spans. G) → IfSome u (λ spans. F × G)
-  both F G None f h = tt
-  both F G (Some spans) f h = (f, h)
-
-  pub found_ge_none : (x : List ℕ) → IfSome (united seen ss) (λ spans. IsNearestEnd true x (span_ends (pooled seen ss)) None) → IfSome (united seen ss) (λ spans. None ≡ near_cut true (takes true x) spans)
-  found_ge_none x n = found_if None true x _ (λ d p f. sym (ge_none (pooled seen ss) d p x f)) n
-
-  pub found_ge : (x c : List ℕ) (found : Option Span) → IfSome (united seen ss) (λ spans. IsNearestEnd true x (span_ends (pooled seen ss)) (Some c)) → IfSome (united seen ss) (λ spans. ShowsAround (pooled seen ss) c found) → IfSome (united seen ss) (λ spans. found ≡ near_cut true (takes true x) spans)
-  found_ge x c found n s = found_if found true x _ (λ d p f. ge_is (pooled seen ss) d p x c found f.0 f.1) (both (IsNearestEnd true x (span_ends (pooled seen ss)) (Some c)) (ShowsAround (pooled seen ss) c found) (united seen ss) n s)
-
-  pub found_lt_none : (x : List ℕ) → IfSome (united seen ss) (λ spans. IsNearestEnd false x (span_ends (pooled seen ss)) None) → IfSome (united seen ss) (λ spans. None ≡ near_cut false (takes false x) spans)
-  found_lt_none x n = found_if None false x _ (λ d p f. sym (lt_none (pooled seen ss) d p x f)) n
-
-  pub found_lt : (x c : List ℕ) (found : Option Span) → IfSome (united seen ss) (λ spans. IsNearestEnd false x (span_ends (pooled seen ss)) (Some c)) → IfSome (united seen ss) (λ spans. Either (Shows (pooled seen ss) c) (ShowsBefore (pooled seen ss) c) found) → IfSome (united seen ss) (λ spans. found ≡ near_cut false (takes false x) spans)
-  found_lt x c found n s = found_if found false x _ (λ d p f. lt_is (pooled seen ss) d p x c found f.0 f.1) (both (IsNearestEnd false x (span_ends (pooled seen ss)) (Some c)) (Either (Shows (pooled seen ss) c) (ShowsBefore (pooled seen ss) c) found) (united seen ss) n s)
-
-  -- the parts of a search
-  pub either_first : (F G : Option Span → Type 0) (shown : Option Span) → is_some shown ≡ true → IfSome (united seen ss) (λ spans. F shown) → IfSome (united seen ss) (λ spans. Either F G shown)
-  either_first F G shown some w = go (united seen ss) w
+  -- there is one
+  ends_here : (e : List ℕ) → Among e (span_ends pool) → none_of (keys_at pool e) ≡ true → (t : Span) × Among t pool × (e ≡ t.end)
+  ends_here e m bare = let f = ends_from pool e m in go f.0 f.1 f.2
     where
-      put : (v : Option Span) → is_some v ≡ true → F v → Either F G v
-      put None e w = cc
-      put (Some z) e w = inl w
+      go : (t : Span) → Among t pool → (e ≡ t.start) ⊎ (e ≡ t.end) → (t : Span) × Among t pool × (e ≡ t.end)
+      go t i (inl q) =
+          let a : lt e t.start ≡ false = ap (λ z. lt z t.start) q ∙ lt_itself key_cmp-total t.start in
+          let b : lt e t.end ≡ true = ap (λ z. lt z t.end) q ∙ (proper t i).0 in
+          absurd (true_false _ bare (keyed t i e a b))
+      go t i (inr q) = (t, i, q)
 
-      go : (u : Option (List Span)) → IfSome u (λ spans. F shown) → IfSome u (λ spans. Either F G shown)
-      go None w = tt
-      go (Some spans) w = put shown some w
-
-  pub either_second : (F G : Option Span → Type 0) (shown found : Option Span) → is_some shown ≡ false → IfSome (united seen ss) (λ spans. F shown) → IfSome (united seen ss) (λ spans. G found) → IfSome (united seen ss) (λ spans. Either F G found)
-  either_second F G shown found none w v = go (united seen ss) w v
+  bare_here : (e : List ℕ) → IsNearestEnd true e (span_ends pool) None ⊎ IsBare true pool e → none_of (keys_at pool e) ≡ true
+  bare_here e (inr b) = b.bare
+  bare_here e (inl n) = go (none_of (keys_at pool e)) refl
     where
-      put : (v f : Option Span) → is_some v ≡ false → F v → G f → Either F G f
-      put None None e w v = (w, v)
-      put None (Some z) e w v = inr (w, v)
-      put (Some y) f e w v = cc
+      go : (b : Bool) → none_of (keys_at pool e) ≡ b → b ≡ true
+      go true q = refl
+      go false q =
+          let f = over_from pool e (sym (none_newest (keys_over pool e)) ∙ q) in
+          absurd (true_false _ (inside_end (lt e f.0.start) (lt e f.0.end) f.2) (n.nearest f.0.end (ends_in pool f.0 f.1).1))
 
-      go : (u : Option (List Span)) → IfSome u (λ spans. F shown) → IfSome u (λ spans. G found) → IfSome u (λ spans. Either F G found)
-      go None w v = tt
-      go (Some spans) w v = put shown found none w v
-
-  pub shows_before : (end : List ℕ) (start : Option (List ℕ)) (found : Option Span) → IfSome (united seen ss) (λ spans. IsNearestEnd false end (span_ends (pooled seen ss)) start) → IfSome (united seen ss) (λ spans. ShowsFirst (pooled seen ss) start found)
-      → IfSome (united seen ss) (λ spans. ShowsBefore (pooled seen ss) end found)
-  shows_before end start found n w = go (united seen ss) n w
+  something : (ahead : Bool) (x e : List ℕ) → IsNearestEnd ahead x (span_ends pool) (Some e) → none_of (keys_at pool (first_end ahead x e)) ≡ true → IsNearestEnd ahead e (span_ends pool) None ⊎ IsBare ahead pool e → ⊥
+  something true x e n bare none = let t = ends_here e n.among.0 (bare_here e none) in go t.0 t.1 t.2 (lt x t.0.start) refl
     where
-      go : (u : Option (List Span)) → IfSome u (λ spans. IsNearestEnd false end (span_ends (pooled seen ss)) start) → IfSome u (λ spans. ShowsFirst (pooled seen ss) start found) → IfSome u (λ spans. ShowsBefore (pooled seen ss) end found)
-      go None n w = tt
-      go (Some spans) n w = record { start = start; nearest = n; shows = w }
-
-  pub shows_around : (end : List ℕ) (start : Option (List ℕ)) (found : Option Span) → IfSome (united seen ss) (λ spans. IsNearestEnd false end (span_ends (pooled seen ss)) start) → IfSome (united seen ss) (λ spans. Either (ShowsFirst (pooled seen ss) start) (Shows (pooled seen ss) end) found)
-      → IfSome (united seen ss) (λ spans. ShowsAround (pooled seen ss) end found)
-  shows_around end start found n w = go (united seen ss) n w
+      go : (t : Span) → Among t pool → e ≡ t.end → (b : Bool) → lt x t.start ≡ b → ⊥
+      go t i q true p =
+          let l : lt t.start e ≡ true = ap (lt t.start) q ∙ (proper t i).0 in
+          true_false _ l (n.nearest t.start (ends_in pool t i).0 p)
+      go t i q false p = true_false _ bare (keyed t i x p (ap (lt x) (sym q) ∙ n.among.1))
+  something false x e n bare none = let t = ends_here e n.among.0 bare in go none t.0 t.1 t.2
     where
-      go : (u : Option (List Span)) → IfSome u (λ spans. IsNearestEnd false end (span_ends (pooled seen ss)) start) → IfSome u (λ spans. Either (ShowsFirst (pooled seen ss) start) (Shows (pooled seen ss) end) found) → IfSome u (λ spans. ShowsAround (pooled seen ss) end found)
-      go None n w = tt
-      go (Some spans) n w = record { start = start; nearest = n; shows = w }
+      go : IsNearestEnd false e (span_ends pool) None ⊎ IsBare false pool e → (t : Span) → Among t pool → e ≡ t.end → ⊥
+      go (inl o) t i q =
+          let l : lt t.start e ≡ true = ap (lt t.start) q ∙ (proper t i).0 in
+          true_false _ l (o.nearest t.start (ends_in pool t i).0)
+      go (inr b) t i q =
+          let l : lt t.start e ≡ true = ap (lt t.start) q ∙ (proper t i).0 in
+          true_false _ b.bare (keyed t i b.end (b.nearest.nearest t.start (ends_in pool t i).0 l) (ap (lt b.end) (sym q) ∙ b.nearest.among.1))
 
-  pub first_none : (start : Option (List ℕ)) → start ≡ None → IfSome (united seen ss) (λ spans. ShowsFirst (pooled seen ss) start None)
-  first_none start e = go (united seen ss) start e
+  pub beyond : (ahead : Bool) (x e : List ℕ) (shown : Option Span) → Among x (span_ends pool) → IsNearestEnd ahead x (span_ends pool) (Some e) → none_of (keys_at pool (first_end ahead x e)) ≡ true → Shows ahead pool e shown → shown ≡ near_cut ahead (takes ahead x) (cut_spans pool)
+  beyond ahead x e None m n bare shows = absurd (something ahead x e n bare shows)
+  beyond true x e (Some c) m n bare shows = subst (λ z. IsNearestEnd true x (span_ends pool) (Some z) → IsBetween true pool z c → Some c ≡ near_cut true (takes true x) (cut_spans pool)) shows.from (λ o b. first_beyond x c m o bare b) n shows
+  beyond false x e (Some c) m n bare shows =
+      subst (λ z. IsNearestEnd false x (span_ends pool) (Some z) → none_of (keys_at pool z) ≡ true → IsBetween false pool z c → Some c ≡ near_cut false (takes false x) (cut_spans pool)) shows.from (λ o b k. last_beyond x c o b k) n bare shows
+
+  pub nowhere : (ahead : Bool) (x : List ℕ) → IsNearestEnd ahead x (span_ends pool) None → near_cut ahead (takes ahead x) (cut_spans pool) ≡ None
+  nowhere true x n = first_nowhere (keys_at pool) x es (λ b m. n.nearest b (from b m))
+  nowhere false x n = last_nowhere (keys_at pool) x es (λ a m l. absurd (true_false _ l (n.nearest a (from a m))))
+
+  -- what stands next to a key stands next to the end of the bare stretch there
+  pub same_takes : (ahead : Bool) (x e : List ℕ) → IsNearestEnd ahead x (span_ends pool) (Some e) → none_of (keys_at pool (first_end ahead x e)) ≡ true → (t : Span) → Among t pool → takes ahead x t ≡ takes ahead e t
+  same_takes true x e n bare t m = ap not (go (lt x t.end) (lt x t.start) refl refl)
     where
-      go : (u : Option (List Span)) (start : Option (List ℕ)) → start ≡ None → IfSome u (λ spans. ShowsFirst (pooled seen ss) start None)
-      go None start e = tt
-      go (Some spans) None e = refl
-      go (Some spans) (Some s) e = cc
+      go : (a b : Bool) → lt x t.end ≡ a → lt x t.start ≡ b → lt x t.end ≡ lt e t.end
+      go true true p q = p ∙ sym (ge_lt key_cmp-total e t.start t.end (n.nearest t.start (ends_in pool t m).0 q) (proper t m).0)
+      go true false p q = absurd (true_false _ bare (keyed t m x q p))
+      go false b p q = p ∙ sym (ge_trans key_cmp-total e x t.end (lt_back key_cmp-total x e n.among.1) p)
+  same_takes false x e n bare t m = go (lt t.start x) (lt t.start e) refl refl
+    where
+      go : (a b : Bool) → lt t.start x ≡ a → lt t.start e ≡ b → lt t.start x ≡ lt t.start e
+      go true true p q = p ∙ sym q
+      go true false p q = absurd (true_false _ bare (keyed t m e (n.nearest t.start (ends_in pool t m).0 p) (ge_lt key_cmp-total e t.start t.end q (proper t m).0)))
+      go false b p q = p ∙ sym (ge_trans key_cmp-total t.start x e p (lt_back key_cmp-total e x n.among.1))
+
+  -- a seek goes to the first span behind the last end before the next one
+  sought_ahead : (x n : List ℕ) (far : Option (List ℕ)) → IsNearestEnd true x (span_ends pool) (Some n) → IsNearestEnd false n (span_ends pool) far → (j k : List ℕ) → Among j (span_ends pool) → Among k (span_ends pool) → lt j k ≡ true → lt (unwrap_or far n) k ≡ lt x k
+  sought_ahead x n (Some u) one two j k i m less = go (lt x k) refl
+    where
+      go : (b : Bool) → lt x k ≡ b → lt u k ≡ lt x k
+      go true p = lt_ge key_cmp-total u n k two.among.1 (one.nearest k m p) ∙ sym p
+      go false p = two.nearest k m (ge_lt key_cmp-total k x n p one.among.1) ∙ sym p
+  sought_ahead x n None one two j k i m less = go (lt x k) (lt n k) refl refl
+    where
+      go : (a b : Bool) → lt x k ≡ a → lt n k ≡ b → lt n k ≡ lt x k
+      go true true p q = q ∙ sym p
+      go true false p q = absurd (true_false _ (lt_ge key_cmp-total j k n less q) (two.nearest j i))
+      go false b p q = absurd (true_false _ (ge_lt key_cmp-total k x n p one.among.1) (two.nearest k m))
+
+  sought_back : (x n : List ℕ) (far : Option (List ℕ)) → IsNearestEnd false x (span_ends pool) (Some n) → IsNearestEnd true n (span_ends pool) far → (k j : List ℕ) → Among k (span_ends pool) → Among j (span_ends pool) → lt k j ≡ true → lt k (unwrap_or far n) ≡ lt k x
+  sought_back x n (Some u) one two k j m i less = go (lt k x) refl
+    where
+      go : (b : Bool) → lt k x ≡ b → lt k u ≡ lt k x
+      go true p = ge_lt key_cmp-total k n u (one.nearest k m p) two.among.1 ∙ sym p
+      go false p = two.nearest k m (lt_ge key_cmp-total n x k one.among.1 p) ∙ sym p
+  sought_back x n None one two k j m i less = go (lt k x) (lt k n) refl refl
+    where
+      go : (a b : Bool) → lt k x ≡ a → lt k n ≡ b → lt k n ≡ lt k x
+      go true true p q = q ∙ sym p
+      go true false p q = absurd (true_false _ (ge_lt key_cmp-total n k j q less) (two.nearest j i))
+      go false b p q = absurd (true_false _ (lt_ge key_cmp-total n x k one.among.1 p) (two.nearest k m))
+
+  pub sought_from : (ahead : Bool) (x n : List ℕ) (far : Option (List ℕ)) → IsNearestEnd ahead x (span_ends pool) (Some n) → IsNearestEnd (not ahead) n (span_ends pool) far → near_cut ahead (takes ahead (unwrap_or far n)) (cut_spans pool) ≡ near_cut ahead (takes ahead x) (cut_spans pool)
+  sought_from true x n far one two = near_agree true (takes true (unwrap_or far n)) (takes true x) (cut_spans pool) (λ c m.
+      let next = (between_next (keys_at pool) es rises c m).0 in
+      ap not (sought_ahead x n far one two c.start c.end (from c.start next.at) (from c.end next.to) next.less))
+  sought_from false x n far one two = near_agree false (takes false (unwrap_or far n)) (takes false x) (cut_spans pool) (λ c m.
+      let next = (between_next (keys_at pool) es rises c m).0 in
+      sought_back x n far one two c.start c.end (from c.start next.at) (from c.end next.to) next.less)
+
+  -- a span of the merge lies between two ends
+  pub ends_of : (c : Span) → Among c (cut_spans pool) → Among c.start (span_ends pool) × Among c.end (span_ends pool) × (lt c.start c.end ≡ true)
+  ends_of c m = let next = (between_next (keys_at pool) es rises c m).0 in (from c.start next.at, from c.end next.to, next.less)
+
+  pub none_between : (c : Span) → Among c (cut_spans pool) → (k : List ℕ) → Among k (span_ends pool) → lt c.start k ≡ true → lt k c.end ≡ false
+  none_between c m k i l = (between_next (keys_at pool) es rises c m).0.first k (has k i) l

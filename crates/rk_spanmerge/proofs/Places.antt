@@ -1,6 +1,8 @@
 -- The place of the span that a merge lends.
 use Rattle.std.proofs.Common.{◌≡◌, ℕ, zero, suc, ◌+◌, ◌*◌, ◌<◌, ◌≤◌, length, Bool, true, false, not, List, [], ◌∷◌, Option, Some, None, is_some, IfSome, IsTrue, Ok, Err, Result, OnOk, slice_get, option_map, refl, ap, sym, subst, ◌∙◌, ◌⊎◌, inl, inr, arith, add-one, Ordering}
-use Rattle.std.specs.Prelude.{◌^◌, if◌then◌else◌}
+use mathlib.Core.Path.{fun_ext}
+use Rattle.std.specs.Prelude.{◌^◌}
+use Rattle.std.specs.Option.{option_map_or}
 use Rattle.std.specs.Ordering.{is_lt}
 use Rattle.std.specs.Cmp.{IsTotalOrder}
 use Rattle.std.proofs.lemmas.Cmp.{on_total}
@@ -8,14 +10,16 @@ use Rattle.rk_key.specs.Keys.{key_cmp}
 use Rattle.rk_key.specs.Laws.{key_cmp-total}
 use Rattle.rk_key.proofs.TotalOrders.{lt_itself, lt_ge, ge_lt}
 use Rattle.rk_outside.specs.declared.error.SourceError.{SourceError}
-use Rattle.rk_model.specs.Sources.{Seen, Same, Goes, IsHere, are_spans, ascends, count_before, spans_begun, behind_cut, item_at}
+use Rattle.rk_model.specs.Sources.{Seen, Same, Goes, IsHere, are_spans, ascends, count_before, spans_begun, behind_cut, before_cut, item_at}
 use Rattle.rk_model.specs.declared.span.Span.{Span}
 use Rattle.rk_merge.specs.Unions.{Among}
 use Rattle.rk_merge.specs.Cuts.{near_cut, place_near, step_place}
 use Rattle.rk_merge.proofs.Cuts.{near_item, near_is, rank_item, rank_within, cut_within, cut_none, behind_some, behind_none, before_suc, lt_or_le}
-use Rattle.rk_spanmerge.specs.Merges.{Merging, merging_seen, merged, merged_count, span_place, call_reads, united}
-use Rattle.rk_spanmerge.specs.Moves.{lt, takes, all_rest, IsMerging, MovesOn, CountsOn}
-use Rattle.rk_spanmerge.proofs.Sources.{rest_united, rest_total}
+use Rattle.rk_spanmerge.specs.Merges.{Merging, merging_seen, merged, merged_count, merged_seek, merged_steps, merged_turn, turn_from, step_most, on_reads, back_reads, left_end, span_place, united}
+use Rattle.rk_merge.specs.Several.{all_rest, total}
+use Rattle.rk_merge.proofs.Several.{rest_total}
+use Rattle.rk_spanmerge.specs.Moves.{lt, takes, Arrives, IsMerging, MovesOn, CountsOn}
+use Rattle.rk_spanmerge.proofs.Sources.{rest_united, rest_most}
 use Rattle.rk_spanmerge.proofs.Chains.{Chain, chain_of, behind, proper_of}
 
 abbrev span_cmp : Span → Span → Ordering
@@ -32,7 +36,7 @@ starts_ascend (s ∷ t ∷ ts) h =
     let rest = starts_ascend (t ∷ ts) h.1 in
     rw (first, rest) refl
 
-span_at : (ss : List Span) → are_spans ss ≡ true → (c : Span) → Among c ss → slice_get ss (spans_begun c.start ss) ≡ Some c
+pub span_at : (ss : List Span) → are_spans ss ≡ true → (c : Span) → Among c ss → slice_get ss (spans_begun c.start ss) ≡ Some c
 span_at ss sound c m = rank_item span_total ss (starts_ascend ss (chain_of ss sound)) c m
 
 span_within : (ss : List Span) → are_spans ss ≡ true → (c : Span) → Among c ss → spans_begun c.start ss < length ss
@@ -89,23 +93,50 @@ ended (s ∷ ss) h c (inr m) =
     let first : lt s.start c.start ≡ true = lt_ge key_cmp-total s.start s.end c.start h.0.proper (h.0.later c m) in
     rw (b.end_end, first) (ap (λ n. n + 1) ih)
 
-pub step_from : (ahead : Bool) (ss : List Span) → are_spans ss ≡ true → (c : Span) → Among c ss → place_near ahead (count_before (takes ahead (if ahead then c.end else c.start)) ss) (length ss) ≡ step_place ahead ss (Some (spans_begun c.start ss))
+pub step_from : (ahead : Bool) (ss : List Span) → are_spans ss ≡ true → (c : Span) → Among c ss → place_near ahead (count_before (takes ahead (left_end ahead c)) ss) (length ss) ≡ step_place ahead ss (Some (spans_begun c.start ss))
 step_from true ss sound c m = ap (λ n. behind_cut n (length ss)) (ended ss (chain_of ss sound) c m)
 step_from false ss sound c m = refl
 
 module _ {S : Type 0} (seen : S → Seen Span) (sorted : (ss : List S) → IfSome (united seen ss) (λ xs. IsTrue (are_spans xs))) where
-  sound_of : (ss : List S) (xs : List Span) → united seen ss ≡ Some xs → are_spans xs ≡ true
+  pub sound_of : (ss : List S) (xs : List Span) → united seen ss ≡ Some xs → are_spans xs ≡ true
   sound_of ss xs u = subst (λ (o : Option (List Span)). IfSome o (λ xs. IsTrue (are_spans xs))) u (sorted ss)
 
-  pub merged_same : (olds news : List S) (c c' : Option Span) (n n' : ℕ) → all_rest seen news ≡ all_rest seen olds → Same (merged seen olds c n) (merged seen news c' n')
-  merged_same olds news c c' n n' e =
-      let r : call_reads seen news ≡ call_reads seen olds = ap (λ t. 4 * t) (rest_total seen news olds e) in
+  steps_rest : (xs ys : List S) → all_rest seen xs ≡ all_rest seen ys → (u : Option (List Span)) → merged_steps seen u xs ≡ merged_steps seen u ys
+  steps_rest xs ys e None = fun_ext (λ gap. rest_total seen step_most (λ x. refl) xs ys e)
+  steps_rest xs ys e (Some zs) =
+      let on = fun_ext {f = λ (c : Span). total (λ s. on_reads c.end (seen s)) xs} {g = λ (c : Span). total (λ s. on_reads c.end (seen s)) ys} (λ c. rest_total seen (on_reads c.end) (λ s. refl) xs ys e) in
+      let back = fun_ext {f = λ (c : Span). total (λ s. back_reads c.start (seen s)) xs} {g = λ (c : Span). total (λ s. back_reads c.start (seen s)) ys} (λ c. rest_total seen (back_reads c.start) (λ s. refl) xs ys e) in
+      fun_ext (λ gap.
+      ap (λ f. option_map_or f (item_at zs (before_cut gap)) 0 + option_map_or (λ c. total (λ s. back_reads c.start (seen s)) xs) (slice_get zs gap) 0) on
+      ∙ ap (λ f. option_map_or (λ c. total (λ s. on_reads c.end (seen s)) ys) (item_at zs (before_cut gap)) 0 + option_map_or f (slice_get zs gap) 0) back)
+
+  turn_rest : (xs ys : List S) → all_rest seen xs ≡ all_rest seen ys → (u : Option (List Span)) (ahead : Bool) (place : Option ℕ) → merged_turn seen u xs ahead place ≡ merged_turn seen u ys ahead place
+  turn_rest xs ys e None ahead place = refl
+  turn_rest xs ys e (Some zs) ahead place = go (item_at zs place)
+    where
+      go : (c : Option Span) → turn_from seen xs ahead c ≡ turn_from seen ys ahead c
+      go None = refl
+      go (Some c) = rest_total seen (λ s. s.seek_reads (left_end ahead c)) (λ s. refl) xs ys e
+
+  abbrev turns_at : Option (List Span) → List S → ℕ → ℕ
+  turns_at u ss = λ place. merged_turn seen u ss true (Some place) + merged_turn seen u ss false (Some place)
+
+  turns_rest : (xs ys : List S) → all_rest seen xs ≡ all_rest seen ys → (u : Option (List Span)) → turns_at u xs ≡ turns_at u ys
+  turns_rest xs ys e u = fun_ext {f = turns_at u xs} {g = turns_at u ys} (λ place.
+      ap (λ n. n + merged_turn seen u xs false (Some place)) (turn_rest xs ys e u true (Some place))
+      ∙ ap (λ n. merged_turn seen u ys true (Some place) + n) (turn_rest xs ys e u false (Some place)))
+
+  pub merged_same : (olds news : List S) (c c' : Option Span) (was ahead : Bool) (n n' : ℕ) → all_rest seen news ≡ all_rest seen olds → Same (merged seen olds c was n) (merged seen news c' ahead n')
+  merged_same olds news c c' was ahead n n' e =
+      let u = rest_united seen news olds e in
+      let r : merged_seek seen news ≡ merged_seek seen olds = ap (λ t. 3 * t) (rest_most seen news olds e) in
       record {
-        held_is = rest_united seen news olds e;
-        count_is = ap merged_count (rest_united seen news olds e);
-        seek_is = r;
-        step_is = ap (λ n. λ (gap : ℕ). n) r;
-        turn_is = refl;
+        held_is = u;
+        count_is = ap merged_count u;
+        seek_is = ap (λ n. λ (key : List ℕ). n) r;
+        most_is = r;
+        step_is = ap (λ h. merged_steps seen h news) u ∙ steps_rest news olds e (united seen olds);
+        turn_is = ap (λ h. turns_at h news) u ∙ turns_rest news olds e (united seen olds);
       }
 
   abbrev pub IsShown : List S → Option Span → Type 0
@@ -130,10 +161,10 @@ module _ {S : Type 0} (seen : S → Seen Span) (sorted : (ss : List S) → IfSom
       go None w = tt
       go (Some xs) w = one c xs w
 
-  pub found_goes : (olds news : List S) (c c' : Option Span) (n n' : ℕ) (ahead : Bool) (x : List ℕ) → n' < 2 ^ 64 → all_rest seen news ≡ all_rest seen olds → IfSome (united seen olds) (λ ss. c' ≡ near_cut ahead (takes ahead x) ss)
-      → Goes {T = Unit {0}} {E = SourceError} (merged seen olds c n) (merged seen news c' n') (λ ss. place_near ahead (count_before (takes ahead x) ss) (length ss)) (Ok tt)
-  found_goes olds news c c' n n' ahead x h e found = record {
-    same = merged_same olds news c c' n n' e;
+  pub found_goes : (olds news : List S) (c c' : Option Span) (was ahead : Bool) (n n' : ℕ) (x : List ℕ) → n' < 2 ^ 64 → all_rest seen news ≡ all_rest seen olds → IfSome (united seen olds) (λ ss. c' ≡ near_cut ahead (takes ahead x) ss)
+      → Goes {T = Unit {0}} {E = SourceError} (merged seen olds c was n) (merged seen news c' ahead n') (λ ss. place_near ahead (count_before (takes ahead x) ss) (length ss)) (Ok tt)
+  found_goes olds news c c' was ahead n n' x h e found = record {
+    same = merged_same olds news c c' was ahead n n' e;
     there = there (united seen olds) refl (united seen news) (rest_united seen news olds e) found;
     within = place_within news c' n' (shown_near olds news c' ahead x e found) h;
     nowhere = tt;
@@ -143,24 +174,24 @@ module _ {S : Type 0} (seen : S → Seen Span) (sorted : (ss : List S) → IfSom
       there None u v w f = tt
       there (Some xs) u v w f = rw (w, u) (near_place ahead x xs (sound_of olds xs u) c' f)
 
-  pub refused_goes : (olds news : List S) (c : Option Span) (n n' : ℕ) (to : List Span → Option ℕ) (e : SourceError) → all_rest seen news ≡ all_rest seen olds → Goes {T = Unit {0}} {E = SourceError} (merged seen olds c n) (merged seen news None n') to (Err e)
-  refused_goes olds news c n n' to e same = record { same = merged_same olds news c None n n' same; there = tt; within = tt; nowhere = refl }
+  pub refused_goes : (olds news : List S) (c : Option Span) (was ahead : Bool) (n n' : ℕ) (to : List Span → Option ℕ) (e : SourceError) → all_rest seen news ≡ all_rest seen olds → Goes {T = Unit {0}} {E = SourceError} (merged seen olds c was n) (merged seen news None ahead n') to (Err e)
+  refused_goes olds news c was ahead n n' to e same = record { same = merged_same olds news c None was ahead n n' same; there = tt; within = tt; nowhere = refl }
 
-  pub none_merging : (ss : List S) (n : ℕ) → n < 2 ^ 64 → IsMerging seen (record { sources = ss; current = None; steps = n })
-  none_merging ss n h = record { shown = go (united seen ss); counted = h }
+  pub none_merging : (ss : List S) (ahead : Bool) (n : ℕ) → n < 2 ^ 64 → IsMerging seen (record { sources = ss; current = None; ahead = ahead; steps = n })
+  none_merging ss ahead n h = record { among = go (united seen ss); arrives = record { stands = tt; within = tt }; counted = h }
     where
       go : (u : Option (List Span)) → IfSome u (λ xs. Unit {0})
       go None = tt
       go (Some xs) = tt
 
-  pub found_merging : (olds news : List S) (c : Option Span) (n : ℕ) (ahead : Bool) (x : List ℕ) → n < 2 ^ 64 → all_rest seen news ≡ all_rest seen olds → IfSome (united seen olds) (λ ss. c ≡ near_cut ahead (takes ahead x) ss) → IsMerging seen (record { sources = news; current = c; steps = n })
-  found_merging olds news c n ahead x h e found = record { shown = shown_near olds news c ahead x e found; counted = h }
+  pub found_merging : (olds news : List S) (c : Option Span) (n : ℕ) (ahead : Bool) (x : List ℕ) → n < 2 ^ 64 → all_rest seen news ≡ all_rest seen olds → IfSome (united seen olds) (λ ss. c ≡ near_cut ahead (takes ahead x) ss) → Arrives seen news ahead c → IsMerging seen (record { sources = news; current = c; ahead = ahead; steps = n })
+  found_merging olds news c n ahead x h e found arrives = record { among = shown_near olds news c ahead x e found; arrives = arrives; counted = h }
 
-  pub merging_is : (m : Merging S) (olds xs : List S) (c d : Option Span) (n : ℕ) → record { sources = olds; current = c; steps = n } ≡ m → xs ≡ olds → c ≡ d → merged seen xs d n ≡ merging_seen seen m
-  merging_is m olds xs c d n v e q = ap (λ ys. merged seen ys d n) e ∙ ap (λ r. merged seen olds r n) (sym q) ∙ ap (merging_seen seen) v
+  pub merging_is : (m : Merging S) (olds xs : List S) (c d : Option Span) (ahead : Bool) (n : ℕ) → record { sources = olds; current = c; ahead = ahead; steps = n } ≡ m → xs ≡ olds → c ≡ d → merged seen xs d ahead n ≡ merging_seen seen m
+  merging_is m olds xs c d ahead n v e q = ap (λ ys. merged seen ys d ahead n) e ∙ ap (λ r. merged seen olds r ahead n) (sym q) ∙ ap (merging_seen seen) v
 
   pub here_is : (m : Merging S) → IsMerging seen m → (item : Option Span) → item ≡ m.current → IsHere (merging_seen seen m) item
-  here_is m is item e = record { told = told (united seen m.sources) refl item m.current e is.shown; there = there item m.current e }
+  here_is m is item e = record { told = told (united seen m.sources) refl item m.current e is.among; there = there item m.current e }
     where
       told : (u : Option (List Span)) → united seen m.sources ≡ u → (item c : Option Span) → item ≡ c → IfSome u (λ xs. IfSome c (λ s. Among s xs)) → IfSome u (λ xs. item ≡ item_at xs (option_map (span_place u m.steps) c))
       told None u item c e w = tt
@@ -172,20 +203,20 @@ module _ {S : Type 0} (seen : S → Seen Span) (sorted : (ss : List S) → IfSom
       there item (Some s) e = ap is_some e
 
   -- a step is a seek from the end at which it leaves the span
-  pub step_goes : (ss : List S) (s : Span) (n n' : ℕ) (ahead : Bool) (x : List ℕ) (now : Seen Span) (result : Result (Unit {0}) SourceError) → IsShown ss (Some s) → x ≡ (if ahead then s.end else s.start)
-      → Goes (merged seen ss None n) now (λ xs. place_near ahead (count_before (takes ahead x) xs) (length xs)) result → Goes (merged seen ss (Some s) n') now (λ xs. step_place ahead xs (merged seen ss (Some s) n').place) result
-  step_goes ss s n n' ahead x now result shown e goes = record {
-    same = record { held_is = goes.same.held_is; count_is = goes.same.count_is; seek_is = goes.same.seek_is; step_is = goes.same.step_is; turn_is = goes.same.turn_is };
+  pub step_goes : (ss : List S) (s : Span) (was ahead : Bool) (n : ℕ) (x : List ℕ) (now : Seen Span) (result : Result (Unit {0}) SourceError) → IsShown ss (Some s) → x ≡ left_end ahead s
+      → Goes (merged seen ss (Some s) was n) now (λ xs. place_near ahead (count_before (takes ahead x) xs) (length xs)) result → Goes (merged seen ss (Some s) was n) now (λ xs. step_place ahead xs (merged seen ss (Some s) was n).place) result
+  step_goes ss s was ahead n x now result shown e goes = record {
+    same = goes.same;
     there = there result goes.there;
     within = goes.within;
     nowhere = goes.nowhere;
   }
     where
-      at : (u : Option (List Span)) → united seen ss ≡ u → IfSome u (λ xs. Among s xs) → IfSome u (λ xs. now.place ≡ place_near ahead (count_before (takes ahead x) xs) (length xs)) → IfSome u (λ xs. now.place ≡ step_place ahead xs (Some (span_place u n' s)))
+      at : (u : Option (List Span)) → united seen ss ≡ u → IfSome u (λ xs. Among s xs) → IfSome u (λ xs. now.place ≡ place_near ahead (count_before (takes ahead x) xs) (length xs)) → IfSome u (λ xs. now.place ≡ step_place ahead xs (Some (span_place u n s)))
       at None u w p = tt
       at (Some xs) u w p = p ∙ ap (λ z. place_near ahead (count_before (takes ahead z) xs) (length xs)) e ∙ step_from ahead xs (sound_of ss xs u) s w
 
-      there : (r : Result (Unit {0}) SourceError) → OnOk r (IfSome (united seen ss) (λ xs. now.place ≡ place_near ahead (count_before (takes ahead x) xs) (length xs))) → OnOk r (IfSome (united seen ss) (λ xs. now.place ≡ step_place ahead xs (Some (span_place (united seen ss) n' s))))
+      there : (r : Result (Unit {0}) SourceError) → OnOk r (IfSome (united seen ss) (λ xs. now.place ≡ place_near ahead (count_before (takes ahead x) xs) (length xs))) → OnOk r (IfSome (united seen ss) (λ xs. now.place ≡ step_place ahead xs (Some (span_place (united seen ss) n s))))
       there (Ok v) p = at (united seen ss) refl shown p
       there (Err f) p = tt
 
@@ -206,10 +237,10 @@ module _ {S : Type 0} (seen : S → Seen Span) (sorted : (ss : List S) → IfSom
   counted_moves false n n' None h = tt
   counted_moves false n n' (Some s) h = h
 
-  pub moves : (ss : List S) (s : Span) (n : ℕ) (m : Merging S) (ahead : Bool) → CountsOn ahead n m.steps → united seen m.sources ≡ united seen ss → IfSome (united seen ss) (λ xs. (merging_seen seen m).place ≡ step_place ahead xs (merged seen ss (Some s) n).place)
-      → MovesOn ahead (merged seen ss (Some s) n).place (merging_seen seen m).place
-  moves ss s n m ahead h e w = go (united seen ss) (united seen m.sources) e w
+  pub moves : (ss news : List S) (s : Span) (c : Option Span) (was ahead : Bool) (n n' : ℕ) → CountsOn ahead n n' → united seen news ≡ united seen ss → IfSome (united seen ss) (λ xs. (merged seen news c ahead n').place ≡ step_place ahead xs (merged seen ss (Some s) was n).place)
+      → MovesOn ahead (merged seen ss (Some s) was n).place (merged seen news c ahead n').place
+  moves ss news s c was ahead n n' h e w = go (united seen ss) (united seen news) e w
     where
-      go : (u v : Option (List Span)) → v ≡ u → IfSome u (λ xs. option_map (span_place v m.steps) m.current ≡ step_place ahead xs (Some (span_place u n s))) → MovesOn ahead (Some (span_place u n s)) (option_map (span_place v m.steps) m.current)
-      go None v e w = rw e (counted_moves ahead n m.steps m.current h)
-      go (Some xs) v e w = step_moves ahead xs (spans_begun s.start xs) (option_map (span_place v m.steps) m.current) w
+      go : (u v : Option (List Span)) → v ≡ u → IfSome u (λ xs. option_map (span_place v n') c ≡ step_place ahead xs (Some (span_place u n s))) → MovesOn ahead (Some (span_place u n s)) (option_map (span_place v n') c)
+      go None v e w = rw e (counted_moves ahead n n' c h)
+      go (Some xs) v e w = step_moves ahead xs (spans_begun s.start xs) (option_map (span_place v n') c) w

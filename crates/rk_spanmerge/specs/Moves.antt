@@ -1,34 +1,27 @@
 -- How the sources of a merge are moved, and what is read off them.
-use Rattle.std.specs.Prelude.{◌≡◌, ℕ, ◌*◌, ◌<◌, ◌^◌, Bool, true, false, not, List, [], ◌∷◌, length, map, if◌then◌else◌, Option, Some, None, IfSome, Result, MatchOption, ◌⊎◌}
+use Rattle.std.specs.Prelude.{◌≡◌, ℕ, ◌+◌, ◌*◌, ◌<◌, ◌^◌, Bool, true, false, not, List, [], ◌∷◌, length, All, if◌then◌else◌, Option, Some, None, IfSome, Result, MatchOption, ◌⊎◌}
+use Rattle.std.specs.Option.{option_map_or}
 use Rattle.std.specs.Ordering.{is_lt}
 use Rattle.rk_key.specs.Keys.{key_cmp}
-use Rattle.rk_outside.specs.Causes.{HasSourceCause, RaisesAtMost}
 use Rattle.rk_outside.specs.declared.error.SourceError.{SourceError}
 use Rattle.rk_model.specs.Lists.{none_of}
-use Rattle.rk_model.specs.Sources.{Seen, count_before, Rises}
+use Rattle.rk_model.specs.Sources.{Seen, count_before, item_at, next_reads, prev_reads, Rises}
+use Rattle.rk_model.specs.Runs.{IsWithin, Runs}
 use Rattle.rk_model.specs.declared.span.RangeKey.{RangeKey}
 use Rattle.rk_model.specs.declared.span.Span.{Span}
-use Rattle.rk_fragment.specs.Fragments.{insert_newest, span_with}
+use Rattle.rk_fragment.specs.Fragments.{insert_newest}
 use Rattle.rk_merge.specs.Unions.{Among}
-use Rattle.rk_merge.specs.Cuts.{place_near}
-use Rattle.rk_spanmerge.specs.Merges.{Merging, span_ends, keys_at, united, total}
+use Rattle.rk_merge.specs.Several.{total, all_rest}
+use Rattle.rk_merge.specs.Cuts.{place_near, step_place}
+use Rattle.rk_spanmerge.specs.Merges.{Merging, left_end, span_ends, keys_at, told_items, united}
 
 abbrev pub lt : List ℕ → List ℕ → Bool
 lt x y = is_lt (key_cmp x y)
 
--- what no call changes of a source
-abbrev pub at_rest : Seen Span → Seen Span
-at_rest s = record s { place = None; turn_to_next = 0; turn_to_prev = 0 }
-
-abbrev pub all_rest : {S : Type 0} → (S → Seen Span) → List S → List (Seen Span)
-all_rest seen ss = map (λ s. at_rest (seen s)) ss
-
 -- What a call leaves of the sources, and of the counts of faults and of reads: each source was sought n times
 -- at most.
-pub record Seeks {S T : Type 0} (seen : S → Seen Span) (before now : List S) (f f' r r' n : ℕ) (result : Result T SourceError) : Type 0 where
-  pub same : all_rest seen now ≡ all_rest seen before
-  pub cause : HasSourceCause (united seen before) f f' result
-  pub reads : RaisesAtMost r r' (n * total (λ s. (seen s).seek_reads) before)
+abbrev pub Seeks : {S T : Type 0} → (S → Seen Span) → List S → List S → ℕ → ℕ → ℕ → ℕ → ℕ → Result T SourceError → Type 0
+Seeks seen before now f f' r r' n result = Runs (all_rest seen before) (all_rest seen now) (united seen before) f f' r r' (n * total (λ s. (seen s).seek_most) before) result
 
 -- a span that a seek passes: ahead one that ends at or below the key, back one that begins below it
 abbrev pub takes : Bool → List ℕ → Span → Bool
@@ -38,6 +31,45 @@ takes false x s = lt s.start x
 -- the source stands where a seek goes
 abbrev pub Stands : Bool → List ℕ → Seen Span → Type 0
 Stands ahead x s = IfSome s.held (λ ss. s.place ≡ place_near ahead (count_before (takes ahead x) ss) (length ss))
+
+-- the span at which a source stands, where it is told
+abbrev pub shown : Seen Span → Option Span
+shown s = item_at (told_items s) s.place
+
+-- a span goes on beyond a key: ahead it ends above it, back it begins below it; else it is left behind there
+abbrev pub outlasts : Bool → List ℕ → Span → Bool
+outlasts true x s = lt x s.end
+outlasts false x s = lt s.start x
+
+abbrev pub passes : Bool → List ℕ → Span → Bool
+passes ahead x s = not (outlasts ahead x s)
+
+-- one direction isn't the other
+abbrev pub turns : Bool → Bool → Bool
+turns was ahead = if was then not ahead else ahead
+
+-- A source has gone past a key: one step from a span that is left behind there. Where it shows none, it seeks
+-- the key in a turn, and else it stays.
+pub record Passed (was ahead : Bool) (x : List ℕ) (before now : Seen Span) : Type 0 where
+  pub told : IfSome before.held (λ ss. MatchOption (item_at ss before.place)
+      (now.place ≡ (if turns was ahead then place_near ahead (count_before (takes ahead x) ss) (length ss) else before.place))
+      (λ u. now.place ≡ (if passes ahead x u then step_place ahead ss before.place else before.place)))
+  pub within : IsWithin before → IsWithin now
+
+-- what a step may read, on or back, and the turn that it may be
+abbrev pub go_reads : {A : Type 0} → Bool → Seen A → ℕ
+go_reads ahead s = if ahead then next_reads s else prev_reads s
+
+abbrev pub turn_to : {A : Type 0} → Bool → Seen A → ℕ
+turn_to ahead s = if ahead then s.turn_to_next else s.turn_to_prev
+
+-- what a source reads past a key
+abbrev pub shown_reads : Bool → Bool → List ℕ → Seen Span → Option Span → ℕ
+shown_reads was ahead x s None = if turns was ahead then s.seek_reads x else 0
+shown_reads was ahead x s (Some u) = if passes ahead x u then go_reads ahead s else 0
+
+abbrev pub pass_reads : Bool → Bool → List ℕ → Seen Span → ℕ
+pass_reads was ahead x s = option_map_or (λ ss. shown_reads was ahead x s (item_at ss s.place)) s.held (go_reads ahead s + s.seek_reads x)
 
 -- an end is above the key, or below it, and one end is nearer to it than another
 abbrev pub is_past : Bool → List ℕ → List ℕ → Bool
@@ -56,7 +88,7 @@ abbrev pub nearer_of : Bool → Option (List ℕ) → List ℕ → List ℕ
 nearer_of ahead None e = e
 nearer_of ahead (Some k) e = if is_nearer ahead e k then e else k
 
--- the same with the end of the span that a source shows
+-- the same with the end of the span that a source shows, if it shows one
 abbrev pub with_end : Bool → List ℕ → Option (List ℕ) → Option Span → Option (List ℕ)
 with_end ahead x found None = found
 with_end ahead x found (Some s) = Some (nearer_of ahead found (end_seen ahead x s))
@@ -75,40 +107,49 @@ abbrev pub insert_all : List RangeKey → List RangeKey → List RangeKey
 insert_all [] keys = keys
 insert_all (k ∷ ks) keys = insert_newest k (insert_all ks keys)
 
--- a span with range keys up to an end, where there are both
-abbrev pub span_to : List ℕ → Option (List ℕ) → List RangeKey → Option Span
-span_to start None keys = None
-span_to start (Some end) keys = span_with start end keys
+-- a span that doesn't reach the key: ahead one that begins above it, back one that ends below it
+abbrev pub misses : Bool → List ℕ → Span → Bool
+misses true x s = lt x s.start
+misses false x s = lt s.end x
 
--- the span that begins at an end of the pool of spans, where there are range keys
-abbrev pub Shows : List Span → List ℕ → Option Span → Type 0
-Shows pool start shown = MatchOption shown
-    ((none_of (keys_at pool start) ≡ true) ⊎ IsNearestEnd true start (span_ends pool) None)
-    (λ c. (c.start ≡ start) × (c.keys ≡ keys_at pool start) × (none_of c.keys ≡ false) × IsNearestEnd true start (span_ends pool) (Some c.end))
+-- the range keys next to the key of the span that a source shows
+abbrev pub keys_met : Bool → List ℕ → Option Span → List RangeKey
+keys_met ahead x None = []
+keys_met ahead x (Some s) = if misses ahead x s then [] else s.keys
 
--- the same where there may be no end
-abbrev pub ShowsFirst : List Span → Option (List ℕ) → Option Span → Type 0
-ShowsFirst pool start found = MatchOption start (found ≡ None) (λ first. Shows pool first found)
+-- where the span between a key and the nearest end begins
+abbrev pub first_end : Bool → List ℕ → List ℕ → List ℕ
+first_end ahead x e = if ahead then x else e
 
--- what F says of it, or, where that is none, what G says
-abbrev pub Either : (Option Span → Type 0) → (Option Span → Type 0) → Option Span → Type 0
-Either F G found = MatchOption found (F None × G None) (λ c. F (Some c) ⊎ (F None × G (Some c)))
+-- the pool of spans has no range keys between a key and the nearest end
+pub record IsBare (ahead : Bool) (pool : List Span) (x : List ℕ) : Type 0 where
+  pub end : List ℕ
+  pub nearest : IsNearestEnd ahead x (span_ends pool) (Some end)
+  pub bare : none_of (keys_at pool (first_end ahead x end)) ≡ true
 
--- the span up to an end
-pub record ShowsBefore (pool : List Span) (end : List ℕ) (found : Option Span) : Type 0 where
-  pub start : Option (List ℕ)
-  pub nearest : IsNearestEnd false end (span_ends pool) start
-  pub shows : ShowsFirst pool start found
+-- the span of the pool between a key and the nearest end
+pub record IsBetween (ahead : Bool) (pool : List Span) (x : List ℕ) (c : Span) : Type 0 where
+  pub from : left_end (not ahead) c ≡ x
+  pub nearest : IsNearestEnd ahead x (span_ends pool) (Some (left_end ahead c))
+  pub keys : c.keys ≡ keys_at pool c.start
+  pub some : none_of c.keys ≡ false
 
--- the same, or else the one that begins there
-pub record ShowsAround (pool : List Span) (end : List ℕ) (found : Option Span) : Type 0 where
-  pub start : Option (List ℕ)
-  pub nearest : IsNearestEnd false end (span_ends pool) start
-  pub shows : Either (ShowsFirst pool start) (Shows pool end) found
+abbrev pub Shows : Bool → List Span → List ℕ → Option Span → Type 0
+Shows ahead pool x shown = MatchOption shown (IsNearestEnd ahead x (span_ends pool) None ⊎ IsBare ahead pool x) (IsBetween ahead pool x)
+
+-- where the merge is told, all sources stand next to the key
+abbrev pub AllStand : {S : Type 0} → (S → Seen Span) → List S → Bool → List ℕ → Type 0
+AllStand seen ss ahead x = IfSome (united seen ss) (λ xs. All (λ s. Stands ahead x (seen s)) ss)
+
+-- the sources have come to a span: they stand next to it, where the merge is told, or to none
+pub record Arrives {S : Type 0} (seen : S → Seen Span) (ss : List S) (ahead : Bool) (found : Option Span) : Type 0 where
+  pub stands : IfSome found (λ c. AllStand seen ss ahead (left_end (not ahead) c))
+  pub within : IfSome found (λ c. All (λ s. IsWithin (seen s)) ss)
 
 -- the span that is lent is one of the list, where it is told, and steps are counted in 64 bits
 pub record IsMerging {S : Type 0} (seen : S → Seen Span) (m : Merging S) : Type 0 where
-  pub shown : IfSome (united seen m.sources) (λ ss. IfSome m.current (λ c. Among c ss))
+  pub among : IfSome (united seen m.sources) (λ xs. IfSome m.current (λ c. Among c xs))
+  pub arrives : Arrives seen m.sources m.ahead m.current
   pub counted : m.steps < 2 ^ 64
 
 abbrev pub CountsOn : Bool → ℕ → ℕ → Type 0

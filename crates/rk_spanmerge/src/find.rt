@@ -1,25 +1,21 @@
-// The span of a merge that a seek goes to.
-ghost use Rattle.std.specs.Prelude.{◌≡◌, true, false, All, IfOk, IfSome};
+// The span of a merge next to a key.
+ghost use Rattle.std.specs.Prelude.{◌≡◌, not, true, false, All, IfOk, IfSome, Some, None, if◌then◌else◌};
+ghost use Rattle.std.specs.Option.{option_copied};
+ghost use Rattle.rk_model.specs.Lists.{none_of};
+ghost use Rattle.rk_model.specs.Runs.{Runs};
+ghost use Rattle.rk_merge.specs.Unions.{Among};
+ghost use Rattle.rk_merge.specs.Several.{all_rest, total};
 ghost use Rattle.rk_merge.specs.Cuts.{near_cut};
-ghost use Rattle.rk_spanmerge.specs.Merges.{pooled, span_ends, united};
-ghost use Rattle.rk_spanmerge.specs.Moves.{Seeks, Stands, takes, is_nearer, end_seen, nearer_of, with_end, span_to, IsNearestEnd, Shows, ShowsFirst, Either, ShowsAround, ShowsBefore};
+ghost use Rattle.rk_spanmerge.specs.Merges.{left_end, pooled, span_ends, united};
+ghost use Rattle.rk_spanmerge.specs.Moves.{Seeks, takes, is_nearer, end_seen, nearer_of, with_end, shown, first_end, IsNearestEnd, Shows, AllStand, Arrives, pass_reads};
 
-use crate::all::seek_all;
-use crate::keys::keys_at;
+use crate::all::{pass_all, seek_all};
+use crate::keys::keys_met;
+use rk_fragment::NewestFirst;
 use rk_key::UserKey;
-use rk_model::{RangeKey, RangeKeys, Span, SpanSource};
+use rk_model::{Span, SpanSource, copy_key};
 use rk_outside::{Counting, NoMemory, SourceError};
 use std::alloc::Global;
-
-// An equal key.
-fn copy_key(key: &UserKey) -> Result<UserKey, NoMemory>
-    ensures { IfOk result (λ k. k ≡ key.now) }
-{
-    match key.copy() {
-        Ok(copied) => Ok(copied),
-        Err(_) => Err(NoMemory),
-    }
-}
 
 // Which end of a span is the next one above the key, or below it.
 fn end_seen<'a>(span: &'a Span, key: &UserKey, ahead: bool) -> &'a UserKey
@@ -44,223 +40,144 @@ fn is_nearer(end: &UserKey, other: &UserKey, ahead: bool) -> bool
     if ahead { *end < *other } else { *other < *end }
 }
 
-// A copy of the nearest end above the key, or below it, of sources that stand next to it.
-fn nearest_end<R: Counting, S: SpanSource<R>>(
-    sources: &[S],
-    key: &UserKey,
-    ahead: bool,
-) -> Result<Option<UserKey>, NoMemory>
-    requires { All (λ s. Stands ahead key.now (S.seen s)) sources.now }
-    ensures { IfOk result (λ found. IfSome (united S.seen sources.now) (λ ss. IsNearestEnd ahead key.now (span_ends (pooled S.seen sources.now)) found)) }
+// The nearer one of what was found and an end.
+fn nearer_of<'a>(found: Option<&'a UserKey>, end: &'a UserKey, ahead: bool) -> &'a UserKey
+    ensures { result.now ≡ nearer_of ahead (option_copied found.entry) end.now }
 {
-    let mut found: Option<UserKey> = None;
-    for i in 0..sources.len() {
-        found = nearer_shown::<R, S>(found, &sources[i], key, ahead)?;
+    match found {
+        Some(other) if !is_nearer(end, other, ahead) => other,
+        _ => end,
     }
-    Ok(found)
 }
 
 // The nearer one of what was found and the nearest end of a source.
-fn nearer_shown<R: Counting, S: SpanSource<R>>(
-    found: Option<UserKey>,
-    source: &S,
+fn nearer_shown<'a, R: Counting, S: SpanSource<R>>(
+    found: Option<&'a UserKey>,
+    source: &'a S,
     key: &UserKey,
     ahead: bool,
-) -> Result<Option<UserKey>, NoMemory>
-    requires { Stands ahead key.now (S.seen source.now) }
-    ensures { IfOk result (λ now. IfSome (S.seen source.now).held (λ ss. now ≡ with_end ahead key.now found (near_cut ahead (takes ahead key.now) ss))) }
+) -> Option<&'a UserKey>
+    ensures { IfSome (S.seen source.now).held (λ ss. option_copied result ≡ with_end ahead key.now (option_copied found.entry) (shown (S.seen source.now))) }
 {
     let Some(span) = source.here() else {
-        return Ok(found);
+        return found;
     };
-    Ok(Some(nearer_of(found, end_seen(span, key, ahead), ahead)?))
+    Some(nearer_of(found, end_seen(span, key, ahead), ahead))
 }
 
-// The nearer one of what was found and a copy of an end.
-fn nearer_of(found: Option<UserKey>, end: &UserKey, ahead: bool) -> Result<UserKey, NoMemory>
-    ensures { IfOk result (λ k. k ≡ nearer_of ahead found end.now) }
+// The nearest end above the key, or below it, of sources that stand next to it.
+fn nearest_end<'a, R: Counting, S: SpanSource<R>>(
+    sources: &'a [S],
+    key: &UserKey,
+    ahead: bool,
+) -> Option<&'a UserKey>
+    requires { AllStand S.seen sources.now ahead key.now }
+    ensures { IfSome (united S.seen sources.now) (λ xs. IsNearestEnd ahead key.now (span_ends (pooled S.seen sources.now)) (option_copied result)) }
 {
-    match found {
-        Some(other) if !is_nearer(end, &other, ahead) => Ok(other),
-        _ => copy_key(end),
+    let mut found: Option<&'a UserKey> = None;
+    for i in 0..sources.len() {
+        found = nearer_shown::<R, S>(found, &sources[i], key, ahead);
+    }
+    found
+}
+
+// A span with these range keys between a key and an end.
+fn span_between(
+    key: &UserKey,
+    end: &UserKey,
+    keys: NewestFirst,
+    ahead: bool,
+) -> Result<Span, NoMemory>
+    ensures { IfOk result (λ c. (left_end ahead c ≡ end.now) × (left_end (not ahead) c ≡ key.now) × (c.start ≡ first_end ahead key.now end.now) × (c.keys ≡ keys)) }
+{
+    let (start, end) = if ahead { (key, end) } else { (end, key) };
+    Ok(Span {
+        start: copy_key(start)?,
+        end: copy_key(end)?,
+        keys: keys.into_keys(),
+    })
+}
+
+// The span between a key and the nearest end, where there are range keys, of sources that stand next to it.
+fn show<R: Counting, S: SpanSource<R>>(
+    alloc: Global,
+    sources: &[S],
+    key: &UserKey,
+    ahead: bool,
+) -> Result<Option<Span>, NoMemory>
+    requires { AllStand S.seen sources.now ahead key.now }
+    ensures ok { IfOk result (λ shown. IfSome (united S.seen sources.now) (λ xs. Shows ahead (pooled S.seen sources.now) key.now shown)) }
+    ensures from { IfOk result (λ shown. IfSome shown (λ c. left_end (not ahead) c ≡ key.now)) }
+{
+    let Some(end) = nearest_end::<R, S>(sources, key, ahead) else {
+        return Ok(None);
+    };
+    let keys = keys_met::<R, S>(alloc, sources, key, ahead)?;
+    if keys.has_none() {
+        return Ok(None);
+    }
+    Ok(Some(span_between(key, end, keys, ahead)?))
+}
+
+// The first span from one of all ends on, or the last up to it, of sources that stand next to it: the one up to
+// the nearest end, or else the one behind that.
+fn settle<R: Counting, S: SpanSource<R>>(
+    alloc: Global,
+    sources: &[S],
+    key: &UserKey,
+    ahead: bool,
+) -> Result<Option<Span>, NoMemory>
+    requires stands { AllStand S.seen sources.now ahead key.now }
+    requires end { IfSome (united S.seen sources.now) (λ xs. Among key.now (span_ends (pooled S.seen sources.now))) }
+    ensures found { IfOk result (λ found. IfSome (united S.seen sources.now) (λ xs. found ≡ near_cut ahead (takes ahead key.now) xs)) }
+    ensures stands { IfOk result (λ found. IfSome found (λ c. AllStand S.seen sources.now ahead (left_end (not ahead) c))) }
+{
+    let shown = show::<R, S>(alloc, sources, key, ahead)?;
+    if shown.is_some() {
+        return Ok(shown);
+    }
+    match nearest_end::<R, S>(sources, key, ahead) {
+        Some(end) => show::<R, S>(alloc, sources, end, ahead),
+        None => Ok(None),
     }
 }
 
-// The nearest end above the key, or below it.
+// A copy of the nearest end above the key, or below it.
 fn find_end<R: Counting, S: SpanSource<R>>(
     sources: &mut [S],
     reader: &mut R,
     key: &UserKey,
     ahead: bool,
 ) -> Result<Option<UserKey>, SourceError>
-    ensures ok { IfOk result (λ found. IfSome (united S.seen sources.old) (λ ss. IsNearestEnd ahead key.now (span_ends (pooled S.seen sources.old)) found)) }
+    ensures ok { IfOk result (λ found. IfSome (united S.seen sources.old) (λ xs. IsNearestEnd ahead key.now (span_ends (pooled S.seen sources.old)) found)) }
     ensures seeks { Seeks S.seen sources.old sources.new (R.fault_count reader.old) (R.fault_count reader.new) (R.read_count reader.old) (R.read_count reader.new) 1 result }
 {
     seek_all(sources, reader, key, ahead)?;
-    Ok(nearest_end::<R, S>(sources, key, ahead)?)
-}
-
-// The span that begins at an end, where there are range keys over it.
-fn show<R: Counting, S: SpanSource<R>>(
-    alloc: Global,
-    sources: &mut [S],
-    reader: &mut R,
-    start: &UserKey,
-) -> Result<Option<Span>, SourceError>
-    ensures ok { IfOk result (λ shown. IfSome (united S.seen sources.old) (λ ss. Shows (pooled S.seen sources.old) start.now shown)) }
-    ensures seeks { Seeks S.seen sources.old sources.new (R.fault_count reader.old) (R.fault_count reader.new) (R.read_count reader.old) (R.read_count reader.new) 1 result }
-{
-    seek_all(sources, reader, start, true)?;
-    Ok(shown_from::<R, S>(alloc, sources, start)?)
-}
-
-// The same, of sources that stand at their first spans that end above it.
-fn shown_from<R: Counting, S: SpanSource<R>>(
-    alloc: Global,
-    sources: &[S],
-    start: &UserKey,
-) -> Result<Option<Span>, NoMemory>
-    requires { All (λ s. Stands true start.now (S.seen s)) sources.now }
-    ensures { IfOk result (λ shown. IfSome (united S.seen sources.now) (λ ss. Shows (pooled S.seen sources.now) start.now shown)) }
-{
-    let keys = keys_at::<R, S>(alloc, sources, start)?;
-    let end = nearest_end::<R, S>(sources, start, true)?;
-    span_to(start, end, keys)
-}
-
-// A span with these range keys, where there are any, and an end.
-fn span_to(
-    start: &UserKey,
-    end: Option<UserKey>,
-    keys: Vec<RangeKey>,
-) -> Result<Option<Span>, NoMemory>
-    ensures { IfOk result (λ shown. shown ≡ span_to start.now end keys.items) }
-{
-    let Some(end) = end else {
-        return Ok(None);
-    };
-    if keys.is_empty() {
-        return Ok(None);
-    }
-    Ok(Some(Span {
-        start: copy_key(start)?,
-        end,
-        keys: RangeKeys::from_vec(keys),
-    }))
-}
-
-// The same, where there is an end.
-fn show_first<R: Counting, S: SpanSource<R>>(
-    alloc: Global,
-    sources: &mut [S],
-    reader: &mut R,
-    start: Option<UserKey>,
-) -> Result<Option<Span>, SourceError>
-    ensures ok { IfOk result (λ found. IfSome (united S.seen sources.old) (λ ss. ShowsFirst (pooled S.seen sources.old) start found)) }
-    ensures seeks { Seeks S.seen sources.old sources.new (R.fault_count reader.old) (R.fault_count reader.new) (R.read_count reader.old) (R.read_count reader.new) 1 result }
-{
-    match start {
-        Some(start) => show(alloc, sources, reader, &start),
+    match nearest_end::<R, S>(sources, key, ahead) {
+        Some(end) => Ok(Some(copy_key(end)?)),
         None => Ok(None),
     }
 }
 
-// The span that begins at the first end, or else the one that begins at the second.
-fn show_either<R: Counting, S: SpanSource<R>>(
-    alloc: Global,
-    sources: &mut [S],
-    reader: &mut R,
-    first: Option<UserKey>,
-    second: &UserKey,
-) -> Result<Option<Span>, SourceError>
-    ensures ok { IfOk result (λ found. IfSome (united S.seen sources.old) (λ ss. Either (ShowsFirst (pooled S.seen sources.old) first) (Shows (pooled S.seen sources.old) second.now) found)) }
-    ensures seeks { Seeks S.seen sources.old sources.new (R.fault_count reader.old) (R.fault_count reader.new) (R.read_count reader.old) (R.read_count reader.new) 2 result }
-{
-    let shown = show_first(alloc, sources, reader, first)?;
-    if shown.is_some() {
-        return Ok(shown);
-    }
-    show(alloc, sources, reader, second)
-}
-
-// The span up to an end, or else the one that begins there.
-fn show_around<R: Counting, S: SpanSource<R>>(
-    alloc: Global,
-    sources: &mut [S],
-    reader: &mut R,
-    end: &UserKey,
-) -> Result<Option<Span>, SourceError>
-    ensures ok { IfOk result (λ found. IfSome (united S.seen sources.old) (λ ss. ShowsAround (pooled S.seen sources.old) end.now found)) }
-    ensures seeks { Seeks S.seen sources.old sources.new (R.fault_count reader.old) (R.fault_count reader.new) (R.read_count reader.old) (R.read_count reader.new) 3 result }
-{
-    let start = find_end(sources, reader, end, false)?;
-    show_either(alloc, sources, reader, start, end)
-}
-
-// The first span that ends above the key: the one up to the next end above the key, or the one from there on.
-fn find_ge<R: Counting, S: SpanSource<R>>(
+// The first span from one of all ends on, or the last up to it.
+fn find_from<R: Counting, S: SpanSource<R>>(
     alloc: Global,
     sources: &mut [S],
     reader: &mut R,
     key: &UserKey,
+    ahead: bool,
 ) -> Result<Option<Span>, SourceError>
-    ensures ok { IfOk result (λ found. IfSome (united S.seen sources.old) (λ ss. found ≡ near_cut true (takes true key.now) ss)) }
-    ensures seeks { Seeks S.seen sources.old sources.new (R.fault_count reader.old) (R.fault_count reader.new) (R.read_count reader.old) (R.read_count reader.new) 4 result }
+    requires { IfSome (united S.seen sources.old) (λ xs. Among key.now (span_ends (pooled S.seen sources.old))) }
+    ensures found { IfOk result (λ found. IfSome (united S.seen sources.old) (λ xs. found ≡ near_cut ahead (takes ahead key.now) xs)) }
+    ensures arrives { IfOk result (λ found. Arrives S.seen sources.new ahead found) }
+    ensures seeks { Seeks S.seen sources.old sources.new (R.fault_count reader.old) (R.fault_count reader.new) (R.read_count reader.old) (R.read_count reader.new) 1 result }
 {
-    let Some(end) = find_end(sources, reader, key, true)? else {
-        return Ok(None);
-    };
-    show_around(alloc, sources, reader, &end)
+    seek_all(sources, reader, key, ahead)?;
+    Ok(settle::<R, S>(alloc, sources, key, ahead)?)
 }
 
-// The span up to an end.
-fn show_before<R: Counting, S: SpanSource<R>>(
-    alloc: Global,
-    sources: &mut [S],
-    reader: &mut R,
-    end: &UserKey,
-) -> Result<Option<Span>, SourceError>
-    ensures ok { IfOk result (λ found. IfSome (united S.seen sources.old) (λ ss. ShowsBefore (pooled S.seen sources.old) end.now found)) }
-    ensures seeks { Seeks S.seen sources.old sources.new (R.fault_count reader.old) (R.fault_count reader.new) (R.read_count reader.old) (R.read_count reader.new) 2 result }
-{
-    let start = find_end(sources, reader, end, false)?;
-    show_first(alloc, sources, reader, start)
-}
-
-// The span that begins at an end, or else the one up to there.
-fn show_near<R: Counting, S: SpanSource<R>>(
-    alloc: Global,
-    sources: &mut [S],
-    reader: &mut R,
-    end: &UserKey,
-) -> Result<Option<Span>, SourceError>
-    ensures ok { IfOk result (λ found. IfSome (united S.seen sources.old) (λ ss. Either (Shows (pooled S.seen sources.old) end.now) (ShowsBefore (pooled S.seen sources.old) end.now) found)) }
-    ensures seeks { Seeks S.seen sources.old sources.new (R.fault_count reader.old) (R.fault_count reader.new) (R.read_count reader.old) (R.read_count reader.new) 3 result }
-{
-    let shown = show(alloc, sources, reader, end)?;
-    if shown.is_some() {
-        return Ok(shown);
-    }
-    show_before(alloc, sources, reader, end)
-}
-
-// The last span that begins below the key: the one from the next end below the key on, or the one up to there.
-fn find_lt<R: Counting, S: SpanSource<R>>(
-    alloc: Global,
-    sources: &mut [S],
-    reader: &mut R,
-    key: &UserKey,
-) -> Result<Option<Span>, SourceError>
-    ensures ok { IfOk result (λ found. IfSome (united S.seen sources.old) (λ ss. found ≡ near_cut false (takes false key.now) ss)) }
-    ensures seeks { Seeks S.seen sources.old sources.new (R.fault_count reader.old) (R.fault_count reader.new) (R.read_count reader.old) (R.read_count reader.new) 4 result }
-{
-    let Some(end) = find_end(sources, reader, key, false)? else {
-        return Ok(None);
-    };
-    show_near(alloc, sources, reader, &end)
-}
-
-// The first span that ends above the key, or the last that begins below it.
+// The first span that ends above the key, or the last that begins below it: from the last end before the next
+// one on, or from that one where it is the first.
 pub(crate) fn find<R: Counting, S: SpanSource<R>>(
     alloc: Global,
     sources: &mut [S],
@@ -268,12 +185,40 @@ pub(crate) fn find<R: Counting, S: SpanSource<R>>(
     key: &UserKey,
     ahead: bool,
 ) -> Result<Option<Span>, SourceError>
-    ensures ok { IfOk result (λ found. IfSome (united S.seen sources.old) (λ ss. found ≡ near_cut ahead (takes ahead key.now) ss)) }
-    ensures seeks { Seeks S.seen sources.old sources.new (R.fault_count reader.old) (R.fault_count reader.new) (R.read_count reader.old) (R.read_count reader.new) 4 result }
+    ensures found { IfOk result (λ found. IfSome (united S.seen sources.old) (λ xs. found ≡ near_cut ahead (takes ahead key.now) xs)) }
+    ensures arrives { IfOk result (λ found. Arrives S.seen sources.new ahead found) }
+    ensures seeks { Seeks S.seen sources.old sources.new (R.fault_count reader.old) (R.fault_count reader.new) (R.read_count reader.old) (R.read_count reader.new) 3 result }
 {
-    if ahead {
-        find_ge(alloc, sources, reader, key)
-    } else {
-        find_lt(alloc, sources, reader, key)
-    }
+    let Some(end) = find_end(sources, reader, key, ahead)? else {
+        return Ok(None);
+    };
+    let from = find_end(sources, reader, &end, !ahead)?.unwrap_or(end);
+    find_from(alloc, sources, reader, &from, ahead)
+}
+
+// The end at which a step leaves a span.
+fn left_end(span: &Span, ahead: bool) -> &UserKey
+    ensures { result.now ≡ left_end ahead span.now }
+{
+    if ahead { &span.end } else { &span.start }
+}
+
+// The span behind one, or before it.
+pub(crate) fn leave<R: Counting, S: SpanSource<R>>(
+    alloc: Global,
+    sources: &mut [S],
+    reader: &mut R,
+    span: &Span,
+    was: bool,
+    ahead: bool,
+) -> Result<Option<Span>, SourceError>
+    requires among { IfSome (united S.seen sources.old) (λ xs. Among span.now xs) }
+    requires arrives { Arrives S.seen sources.old was (Some span.now) }
+    ensures found { IfOk result (λ found. IfSome (united S.seen sources.old) (λ xs. found ≡ near_cut ahead (takes ahead (left_end ahead span.now)) xs)) }
+    ensures arrives { IfOk result (λ found. Arrives S.seen sources.new ahead found) }
+    ensures runs { Runs (all_rest S.seen sources.old) (all_rest S.seen sources.new) (united S.seen sources.old) (R.fault_count reader.old) (R.fault_count reader.new) (R.read_count reader.old) (R.read_count reader.new) (total (λ s. pass_reads was ahead (left_end ahead span.now) (S.seen s)) sources.old) result }
+{
+    let key = left_end(span, ahead);
+    pass_all(sources, reader, key, was, ahead)?;
+    Ok(settle::<R, S>(alloc, sources, key, ahead)?)
 }

@@ -1,4 +1,4 @@
-ghost use Rattle.rk_spanmerge.specs.Merges.{EachKeyHasItsRangeKeys, ReadKeysAreDistinct};
+ghost use Rattle.rk_spanmerge.specs.Merges.{CutSpansAreSpans, EachKeyHasItsRangeKeys, ReadKeysAreDistinct, SortedCutsDiffer};
 
 /// Spans that are cut at each other's ends have at each key exactly the range keys of those that it lies in,
 /// newest first.
@@ -9,4 +9,16 @@ pub fn each_key_has_its_range_keys()
 /// Of keys that were read, no two that are equal in order differ.
 pub fn read_keys_are_distinct()
     ensures { ReadKeysAreDistinct }
+{}
+
+/// Spans that are cut at each other's ends are a sorted list of spans, wherever no two range keys over one key
+/// have one number.
+pub fn cut_spans_are_spans()
+    ensures { CutSpansAreSpans }
+{}
+
+/// And only there: where spans that are cut at each other's ends are a sorted list, no two range keys over one key
+/// have one number. So a merge of sources that are told is told exactly there.
+pub fn sorted_cuts_have_differing_keys()
+    ensures { SortedCutsDiffer }
 {}

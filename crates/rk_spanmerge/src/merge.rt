@@ -1,13 +1,13 @@
 // The spans of several sources as one list.
-ghost use Rattle.std.specs.Prelude.{◌≡◌, ◌<◌, length, IsSome, IfSome, IfOk, OnOk, None, if◌then◌else◌};
+ghost use Rattle.std.specs.Prelude.{◌≡◌, length, IsSome, IfSome, IfOk, OnOk, None, true};
 ghost use Rattle.rk_outside.specs.Causes.{HasSourceCause, RaisesAtMost};
 ghost use Rattle.rk_model.specs.Sources.{Goes, count_before};
 ghost use Rattle.rk_merge.specs.Cuts.{place_near, step_place};
-ghost use Rattle.rk_spanmerge.specs.Merges.{merged, merging_seen, call_reads};
-ghost use Rattle.rk_spanmerge.specs.MergeLaws.{united-sorted, merged-turns};
-ghost use Rattle.rk_spanmerge.specs.Moves.{takes, CountsOn, MovesOn};
+ghost use Rattle.rk_spanmerge.specs.Merges.{merged, merged_seek, merging_seen};
+ghost use Rattle.rk_spanmerge.specs.MergeLaws.{united-sorted, merged-bounded};
+ghost use Rattle.rk_spanmerge.specs.Moves.{takes, turn_to, go_reads, CountsOn, MovesOn};
 
-use crate::find::find;
+use crate::find::{find, leave};
 use rk_key::UserKey;
 use rk_model::{Span, SpanList, SpanSource};
 use rk_outside::{Counting, NoMemory, SourceError};
@@ -21,13 +21,17 @@ const MIDDLE: u64 = 1 << 63;
 /// every start and end of a source's span. It is told where each source is told and no two range keys over one
 /// key have one number.
 ///
-/// Each call seeks in the sources, at the most four times, and keeps the span that it goes to. Steps are counted
-/// from the last seek on, so that a reader comes to an end too where the list isn't told.
+/// It keeps a copy of the current span. Between two calls each source stands at its first span that ends above
+/// the start of that one, or at its last that begins below its end. So a step moves only the sources whose
+/// spans end, or begin, where it leaves the current span, and a change of direction those that show none. A seek
+/// seeks in each source three times at most. Steps are counted from the last seek on, so that a reader comes to
+/// an end too where the list isn't told.
 #[derive(Debug, Drop)]
 pub struct SpanMerge<S: SpanList> {
     alloc: Global,
     sources: Vec<S>,
     current: Option<Span>,
+    ahead: bool,
     steps: u64,
 }
 
@@ -37,9 +41,9 @@ impl<S: SpanList> Model for SpanMerge<S> {
 
     ghost Value = { Merging S };
 
-    ghost view = { λ m. record { sources = m.sources.items; current = m.current; steps = m.steps } };
+    ghost view = { λ m. record { sources = m.sources.items; current = m.current; ahead = m.ahead; steps = m.steps } };
 
-    ghost invariant = { λ m. IsMerging S.seen (record { sources = m.sources.items; current = m.current; steps = m.steps }) };
+    ghost invariant = { λ m. IsMerging S.seen (record { sources = m.sources.items; current = m.current; ahead = m.ahead; steps = m.steps }) };
 }
 
 impl<S: SpanList> SpanMerge<S> {
@@ -49,12 +53,13 @@ impl<S: SpanList> SpanMerge<S> {
     ///
     /// None: `NoMemory` is there for a body that takes some.
     pub fn new(alloc: Global, sources: Vec<S>) -> Result<SpanMerge<S>, NoMemory>
-        ensures { IfOk result (λ m. ⟦<SpanMerge<S> as SpanList>⟧.seen m ≡ merged S.seen sources.items None m.steps) }
+        ensures { IfOk result (λ m. ⟦<SpanMerge<S> as SpanList>⟧.seen m ≡ merged S.seen sources.items None true m.steps) }
     {
         Ok(SpanMerge {
             alloc,
             sources,
             current: None,
+            ahead: true,
             steps: MIDDLE,
         })
     }
@@ -67,14 +72,14 @@ impl<S: SpanList> SpanList for SpanMerge<S> {
 impl<R: Counting, S: SpanSource<R>> SpanSource<R> for SpanMerge<S> {
     ghost sorted = { λ m. united-sorted S.seen m.sources };
 
-    ghost turns = { λ m. merged-turns S.seen m.sources m.current m.steps };
+    ghost bounded = { λ m. merged-bounded S.seen m.sources m.current m.ahead m.steps };
 
     fn seek_ge(&mut self, reader: &mut R, key: &UserKey) -> Result<(), SourceError> {
-        go_to(self, reader, key, true, MIDDLE)
+        seek(self, reader, key, true)
     }
 
     fn seek_lt(&mut self, reader: &mut R, key: &UserKey) -> Result<(), SourceError> {
-        go_to(self, reader, key, false, MIDDLE)
+        seek(self, reader, key, false)
     }
 
     fn next(&mut self, reader: &mut R) -> Result<(), SourceError> {
@@ -91,21 +96,21 @@ impl<R: Counting, S: SpanSource<R>> SpanSource<R> for SpanMerge<S> {
 }
 
 // To the first span that ends above the key, or to the last that begins below it.
-fn go_to<R: Counting, S: SpanSource<R>>(
+fn seek<R: Counting, S: SpanSource<R>>(
     merge: &mut SpanMerge<S>,
     reader: &mut R,
     key: &UserKey,
     ahead: bool,
-    steps: u64,
 ) -> Result<(), SourceError>
-    ensures goes { Goes (merging_seen S.seen merge.old) (merging_seen S.seen merge.new) (λ ss. place_near ahead (count_before (takes ahead key.now) ss) (length ss)) result }
-    ensures counted { OnOk result (merge.new.steps ≡ steps) }
+    ensures goes { Goes (merging_seen S.seen merge.old) (merging_seen S.seen merge.new) (λ xs. place_near ahead (count_before (takes ahead key.now) xs) (length xs)) result }
+    ensures straight { OnOk result (turn_to ahead (merging_seen S.seen merge.new) ≡ 0) }
     ensures cause { HasSourceCause (merging_seen S.seen merge.old).held (R.fault_count reader.old) (R.fault_count reader.new) result }
-    ensures reads { RaisesAtMost (R.read_count reader.old) (R.read_count reader.new) (call_reads S.seen merge.old.sources) }
+    ensures reads { RaisesAtMost (R.read_count reader.old) (R.read_count reader.new) (merged_seek S.seen merge.old.sources) }
 {
     merge.current = None;
     merge.current = find(merge.alloc, &mut merge.sources, reader, key, ahead)?;
-    merge.steps = steps;
+    merge.ahead = ahead;
+    merge.steps = MIDDLE;
     Ok(())
 }
 
@@ -116,10 +121,11 @@ fn step<R: Counting, S: SpanSource<R>>(
     ahead: bool,
 ) -> Result<(), SourceError>
     requires { IsSome (merging_seen S.seen merge.old).place }
-    ensures goes { Goes (merging_seen S.seen merge.old) (merging_seen S.seen merge.new) (λ ss. step_place ahead ss (merging_seen S.seen merge.old).place) result }
+    ensures goes { Goes (merging_seen S.seen merge.old) (merging_seen S.seen merge.new) (λ xs. step_place ahead xs (merging_seen S.seen merge.old).place) result }
     ensures moves { OnOk result (MovesOn ahead (merging_seen S.seen merge.old).place (merging_seen S.seen merge.new).place) }
+    ensures straight { OnOk result (turn_to ahead (merging_seen S.seen merge.new) ≡ 0) }
     ensures cause { HasSourceCause (merging_seen S.seen merge.old).held (R.fault_count reader.old) (R.fault_count reader.new) result }
-    ensures reads { RaisesAtMost (R.read_count reader.old) (R.read_count reader.new) (call_reads S.seen merge.old.sources) }
+    ensures reads { RaisesAtMost (R.read_count reader.old) (R.read_count reader.new) (go_reads ahead (merging_seen S.seen merge.old)) }
 {
     let Some(span) = merge.current.take() else {
         return Ok(());
@@ -127,14 +133,17 @@ fn step<R: Counting, S: SpanSource<R>>(
     let Some(steps) = count_step(merge.steps, ahead) else {
         return Err(SourceError::Memory);
     };
-    go_to(merge, reader, left_end(&span, ahead), ahead, steps)
-}
-
-// The end at which a step leaves a span.
-fn left_end(span: &Span, ahead: bool) -> &UserKey
-    ensures { result.now ≡ (if ahead then span.now.end else span.now.start) }
-{
-    if ahead { &span.end } else { &span.start }
+    merge.current = leave(
+        merge.alloc,
+        &mut merge.sources,
+        reader,
+        &span,
+        merge.ahead,
+        ahead,
+    )?;
+    merge.ahead = ahead;
+    merge.steps = steps;
+    Ok(())
 }
 
 // One step more, or one less.

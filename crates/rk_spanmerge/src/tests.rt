@@ -63,17 +63,64 @@ fn step(merge: &mut Merge, ahead: bool) -> Result<(), Fail> {
     Ok(())
 }
 
+/// Steps, each on or back, and whether each led to the span that is wanted.
+fn leads(merge: &mut Merge, steps: &[(bool, Wanted)]) -> Result<bool, Fail> {
+    for (ahead, wanted) in steps {
+        step(merge, *ahead)?;
+        if !shows(merge, *wanted) {
+            return Ok(false);
+        }
+    }
+    Ok(true)
+}
+
+#[test]
+fn turns_at_each_place(rt: HostRuntime) -> Result<(), Fail> {
+    let alloc = rt.alloc();
+    let mut merge = merge(alloc)?;
+    merge.seek_lt(&mut NoReads, &read_key(alloc, b"z")?)?;
+    assert!(rt; shows(&merge, (b"c", b"d", &[2])));
+    let steps: [(bool, Wanted); 6] = [
+        (false, (b"b", b"c", &[2, 1])),
+        (true, (b"c", b"d", &[2])),
+        (false, (b"b", b"c", &[2, 1])),
+        (false, (b"a", b"b", &[1])),
+        (true, (b"b", b"c", &[2, 1])),
+        (false, (b"a", b"b", &[1])),
+    ];
+    assert!(rt; leads(&mut merge, &steps)?);
+    step(&mut merge, false)?;
+    assert!(rt; <Merge as SpanSource<NoReads>>::here(&merge).is_none());
+    Ok(())
+}
+
+#[test]
+fn over_a_gap(rt: HostRuntime) -> Result<(), Fail> {
+    let alloc = rt.alloc();
+    let mut sources = Vec::new(alloc);
+    sources.push(list(alloc, span(alloc, b"a", b"b", 1)?)?)?;
+    sources.push(list(alloc, span(alloc, b"c", b"d", 2)?)?)?;
+    let mut merge = SpanMerge::new(alloc, sources)?;
+    merge.seek_ge(&mut NoReads, &read_key(alloc, b"b")?)?;
+    assert!(rt; shows(&merge, (b"c", b"d", &[2])));
+    let steps: [(bool, Wanted); 2] = [(false, (b"a", b"b", &[1])), (true, (b"c", b"d", &[2]))];
+    assert!(rt; leads(&mut merge, &steps)?);
+    step(&mut merge, true)?;
+    assert!(rt; <Merge as SpanSource<NoReads>>::here(&merge).is_none());
+    Ok(())
+}
+
 #[test]
 fn on_and_back(rt: HostRuntime) -> Result<(), Fail> {
     let alloc = rt.alloc();
     let mut merge = merge(alloc)?;
     merge.seek_ge(&mut NoReads, &read_key(alloc, b"a")?)?;
     assert!(rt; shows(&merge, (b"a", b"b", &[1])));
-    step(&mut merge, true)?;
-    assert!(rt; shows(&merge, (b"b", b"c", &[2, 1])));
-    step(&mut merge, true)?;
-    assert!(rt; shows(&merge, (b"c", b"d", &[2])));
-    step(&mut merge, false)?;
-    assert!(rt; shows(&merge, (b"b", b"c", &[2, 1])));
+    let steps: [(bool, Wanted); 3] = [
+        (true, (b"b", b"c", &[2, 1])),
+        (true, (b"c", b"d", &[2])),
+        (false, (b"b", b"c", &[2, 1])),
+    ];
+    assert!(rt; leads(&mut merge, &steps)?);
     Ok(())
 }

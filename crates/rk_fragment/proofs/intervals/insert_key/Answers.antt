@@ -12,6 +12,6 @@ loop-interval-preserved c =
     let items = c.loop-interval.interval-items in
     let i = c.loop-interval.interval-index in
     let x = get_or items i c.interval-item.result in
-    let put : c.insert.new.self ≡ insert_newest key x.keys = c.in_ok-insert.ensures ∙ ap (λ k. insert_newest k x.keys) c.in_ok-copy.ensures in
+    let put : c.insert.new.self ≡ insert_newest key x.keys = c.in_ok-insert.ensures.ok ∙ ap (λ k. insert_newest k x.keys) c.in_ok-copy.ensures in
     ap (λ keys. let y : Interval = record { start = x.start; keys = keys } in set items i y) put
     ∙ map_over_more (with_key key) c.args.intervals.now items i x (omega arith) c.loop-interval.invariant (get_or_default items i c.interval-item.result x (omega arith))

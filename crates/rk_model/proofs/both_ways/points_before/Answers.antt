@@ -11,6 +11,7 @@ loop-entry-preserved g c =
     let here = copied_here _ _ _ c.in_ok-copy.field-0 c.here.ensures.told is in
     record {
       same = Same-trans c.loop-entry.invariant.same c.in_ok-prev.ensures.goes.same;
+      faults = c.in_ok-prev.ensures.cause.kept ∙ c.loop-entry.invariant.faults;
       within = c.in_ok-prev.ensures.goes.within;
       reading = rw c.in_ok-push.ensures.items (one_more _ passed (λ xs place. prev_place place) steps_back _ _ _ _ c.loop-entry.points.items c.in_ok-copy.field-0 c.loop-entry.invariant.same.held_is c.loop-entry.invariant.reading here c.in_ok-prev.ensures.goes.there);
     }
@@ -18,6 +19,7 @@ loop-entry-preserved g c =
 pub loop-entry-init : goal.loop-entry-init
 loop-entry-init g c = record {
   same = c.in_ok-seek_lt.ensures.goes.same;
+  faults = c.in_ok-seek_lt.ensures.cause.kept;
   within = c.in_ok-seek_lt.ensures.goes.within;
   reading = nothing_read _ passed (point_lt c.args.key.now) (λ es. passed-cut (points_below c.args.key.now es) es) _ _ _ c.new-points.ensures.items c.in_ok-seek_lt.ensures.goes.there;
 }

@@ -1,4 +1,4 @@
-use Rattle.std.proofs.Common.{◌<◌, ◌+◌, reverse, take, IfSome}
+use Rattle.std.proofs.Common.{◌≡◌, ◌<◌, ◌+◌, reverse, take, IfSome}
 use Rattle.std.specs.Option.{option_map_or}
 use Rattle.rk_model.specs.Sources.{Same, points_below}
 use Rattle.rk_model.proofs.Readings.{passed, IsReading}
@@ -7,6 +7,7 @@ use Rattle.rk_model.proofs.both_ways.points_before.Given as goal
 abbrev pub invariant-loop-entry : goal.invariant-loop-entry
 invariant-loop-entry g l = record {
   same : Same (g.S.PointList.seen l.fn.source) (g.S.PointList.seen l.source);
+  faults : g.R.Counting.fault_count l.reader ≡ g.R.Counting.fault_count l.fn.reader;
   within : IfSome (g.S.PointList.seen l.source).place (λ i. i < (g.S.PointList.seen l.source).count);
   reading : IsReading (λ es. reverse (take (points_below l.fn.key es) es)) passed (g.S.PointList.seen l.fn.source).held (g.S.PointList.seen l.source).place l.points.items;
 }

@@ -1,8 +1,8 @@
 use Rattle.std.proofs.Common.{◌≡◌, ◌+◌, ◌<◌, ◌≤◌, IsSome, false}
 use Rattle.rk_pointmerge.specs.Merges.{reach}
-use Rattle.rk_pointmerge.specs.Moves.{at_rest, IsWithin}
+use Rattle.rk_model.specs.Runs.{at_rest, IsWithin}
 use Rattle.rk_pointmerge.specs.Views.{gaps_left}
-use Rattle.rk_pointmerge.proofs.Runs.{Ran}
+use Rattle.rk_model.proofs.Runs.{Ran}
 use Rattle.rk_pointmerge.proofs.BackWalks.{ToldBack}
 use Rattle.rk_pointmerge.proofs.back.newest_back.Given as goal
 
@@ -12,7 +12,7 @@ invariant-loop-entry g l = record {
   within : IsWithin (g.P.PointList.seen l.points);
   lower : reach false (g.P.PointList.seen l.points) < reach false (g.P.PointList.seen l.fn.points);
   kept : IsSome l.key;
-  told : ToldBack (g.P.PointList.seen l.fn.points) (g.P.PointList.seen l.points) l.n l.key l.found;
+  told : ToldBack (g.P.PointList.seen l.fn.points) (g.P.PointList.seen l.points).place l.n l.key l.found;
   spent : g.R.Counting.read_count l.reader + gaps_left (g.P.PointList.seen l.points) ≤ g.R.Counting.read_count l.fn.reader + gaps_left (g.P.PointList.seen l.fn.points);
   ran : Ran (at_rest (g.P.PointList.seen l.fn.points)) (at_rest (g.P.PointList.seen l.points)) (g.R.Counting.fault_count l.fn.reader) (g.R.Counting.fault_count l.reader) (g.R.Counting.read_count l.fn.reader) (g.R.Counting.read_count l.reader) (gaps_left (g.P.PointList.seen l.fn.points));
 }

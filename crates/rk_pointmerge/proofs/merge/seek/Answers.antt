@@ -1,6 +1,6 @@
 use Rattle.std.proofs.Common.{◌∙◌, sym, ℕ, List, Option, length, None, Ok, Err, refl, subst}
 use Rattle.std.proofs.lemmas.List.{with_items_is}
-use Rattle.rk_pointmerge.proofs.Alls.{rest_length}
+use Rattle.rk_merge.proofs.Several.{rest_length}
 use Rattle.std.proofs.lemmas.Result.{err_from_is_err_and}
 use Rattle.rk_outside.specs.declared.error.SourceError.{SourceError}
 use Rattle.rk_merge.specs.Cuts.{place_near}

@@ -1,7 +1,7 @@
 use Rattle.std.proofs.Common.{length, ◌<◌, arith}
 use Rattle.rk_merge.specs.Cuts.{place_near}
 use Rattle.rk_model.specs.Sources.{points_below}
-use Rattle.rk_pointmerge.proofs.Alls.{rest_length}
+use Rattle.rk_merge.proofs.Several.{rest_length}
 use Rattle.rk_pointmerge.proofs.Arrivals.{settle, sought_known}
 use Rattle.rk_pointmerge.proofs.merge.seek_all.Goals as goal
 

@@ -1,5 +1,5 @@
 use Rattle.std.proofs.lemmas.List.{with_items_is}
-use Rattle.rk_pointmerge.proofs.Alls.{rest_length}
+use Rattle.rk_merge.proofs.Several.{rest_length}
 use Rattle.std.proofs.Common.{◌∙◌, sym, List, None, Some, Ok, Err, subst}
 use Rattle.std.proofs.lemmas.Result.{err_from_is_err_and}
 use Rattle.rk_outside.specs.Causes.{RaisesAtMost}

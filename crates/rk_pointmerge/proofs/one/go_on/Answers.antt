@@ -1,7 +1,7 @@
 use Rattle.std.proofs.Common.{◌≡◌, rules, arith}
-use Rattle.rk_pointmerge.specs.Moves.{at_rest}
-use Rattle.rk_pointmerge.proofs.Runs.{ran_from, ran_ran, ran_ok, ran_refused, ran_none, rest_held, rest_count, rest_steps}
-use Rattle.rk_pointmerge.proofs.Walks.{walk_start, walk_on, reads_on, reads_end, reads_next, is_shown, isnt_shown, stays_out, walked_to}
+use Rattle.rk_model.specs.Runs.{at_rest}
+use Rattle.rk_model.proofs.Runs.{ran_from, ran_ran, ran_ok, ran_refused, ran_none, rest_held, rest_count, rest_steps}
+use Rattle.rk_pointmerge.proofs.Walks.{walk_start, walk_on, walk_more, walk_next, walk_end, is_shown, isnt_shown, stays_out, walked_to}
 use Rattle.rk_pointmerge.proofs.one.go_on.Goals as goal
 
 pub loop-init : goal.loop-init
@@ -22,7 +22,7 @@ returns-then-is_none-clause-runs g c =
     let ran = c.loop.invariant.ran in
     let b = g.S.PointList.seen c.args.source.now in
     let s = g.S.PointList.seen c.loop.source in
-    let le = reads_end b s (rest_count s b ran.same) c.loop.invariant.walked.within in
+    let le = walk_end b s _ (rest_count s b ran.same) c.loop.invariant.walked in
     ran_ok (at_rest b) (at_rest s) _ _ _ _ _ _ _ _ le ran
 
 pub step_one-requires-clause-within : goal.step_one-requires-clause-within
@@ -34,7 +34,7 @@ returns-in_err-step_one-clause-runs g c =
     let b = g.S.PointList.seen c.args.source.now in
     let s = g.S.PointList.seen c.loop.source in
     let some = is_shown c.here.result s.place c.here.ensures.there (search rules) in
-    let le = reads_next b s (rest_count s b was.ran.same) (rest_steps s b was.ran.same) some was.walked.within was.walked.straight in
+    let le = walk_next b s _ (rest_count s b was.ran.same) (rest_steps s b was.ran.same) some was.walked in
     ran_refused _ _ _ _ _ _ _ _ _ _ _ _ _ _ c.in_err-step_one.field-0.0 _ (rest_held s b was.ran.same) le was.ran c.in_err-step_one.ensures.runs c.from_residual.ensures.1
 
 pub loop-preserved : goal.loop-preserved
@@ -46,7 +46,7 @@ loop-preserved g c =
     let some = is_shown c.here.result s.place c.here.ensures.there (search rules) in
     record {
       walked = walk_on b s t _ (rest_held s b was.ran.same) some was.walked c.in_ok-step_one.ensures.ok;
-      ran = ran_ran _ _ _ _ _ _ _ _ _ _ _ _ (reads_on b.step_reads s t (rest_steps s b was.ran.same) some was.walked.straight c.in_ok-step_one.ensures.ok.rises) was.ran (ran_from _ _ _ _ _ _ _ _ _ c.in_ok-step_one.ensures.runs);
+      ran = ran_ran _ _ _ _ _ _ _ _ _ _ _ _ (walk_more b s t _ (rest_steps s b was.ran.same) some was.walked c.in_ok-step_one.ensures.ok) was.ran (ran_from _ _ _ _ _ _ _ _ _ c.in_ok-step_one.ensures.runs);
     }
 
 pub returns-clause-ok : goal.returns-clause-ok
@@ -62,5 +62,5 @@ returns-clause-runs g c =
     let ran = c.loop.invariant.ran in
     let b = g.S.PointList.seen c.args.source.now in
     let s = g.S.PointList.seen c.loop.source in
-    let le = reads_end b s (rest_count s b ran.same) c.loop.invariant.walked.within in
+    let le = walk_end b s _ (rest_count s b ran.same) c.loop.invariant.walked in
     ran_ok (at_rest b) (at_rest s) _ _ _ _ _ _ _ _ le ran

@@ -1,5 +1,6 @@
 use Rattle.std.proofs.Common.{◌^◌, ◌<◌, length, None, Ok, Err, ℕ, List, Option, subst, ap, lit<}
 use Rattle.std.proofs.lemmas.Result.{err_from_is_err_and}
+use Rattle.rk_outside.specs.Causes.{RaisesAtMost}
 use Rattle.rk_outside.specs.declared.error.SourceError.{SourceError}
 use Rattle.rk_merge.specs.Cuts.{place_near}
 use Rattle.rk_model.specs.Sources.{Seen, Goes, points_below}
@@ -31,3 +32,13 @@ returns-in_err-there-clause-goes g c =
     let p = err_from_is_err_and c.from_residual.result c.from_residual.ensures.1 in
     let goes = view_refused s t v.n v.mark to p.0 c.in_err-there.ensures.runs.same in
     rw p.1 (subst (λ (x : Seen Entry). Goes {T = Unit {0}} {E = SourceError} x (viewed t v.n None) to (Err p.0)) (ap (viewing_seen seen) c.visible.view_is) goes)
+
+pub returns-clause-reads : goal.returns-clause-reads
+returns-clause-reads g c =
+    let most = ap (λ x. (viewing_seen g.S.PointList.seen x).seek_reads c.args.key.now) c.visible.view_is in
+    subst (RaisesAtMost (g.R.Counting.read_count c.args.reader.now) (g.R.Counting.read_count c.seek.new.reader)) most c.in_ok-there.ensures.runs.reads
+
+pub returns-in_err-there-clause-reads : goal.returns-in_err-there-clause-reads
+returns-in_err-there-clause-reads g c =
+    let most = ap (λ x. (viewing_seen g.S.PointList.seen x).seek_reads c.args.key.now) c.visible.view_is in
+    subst (RaisesAtMost (g.R.Counting.read_count c.args.reader.now) (g.R.Counting.read_count c.seek.new.reader)) most c.in_err-there.ensures.runs.reads

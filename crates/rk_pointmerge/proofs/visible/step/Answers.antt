@@ -1,15 +1,17 @@
 use Rattle.std.proofs.Common.{◌^◌, ◌<◌, ◌∙◌, sym, None, Some, Ok, Err, ℕ, Option, IfSome, subst, ap}
 use Rattle.std.proofs.lemmas.Result.{err_from_is_err_and}
+use Rattle.rk_outside.specs.Causes.{RaisesAtMost}
 use Rattle.rk_outside.specs.declared.error.SourceError.{SourceError}
 use Rattle.rk_merge.specs.Cuts.{step_place}
 use Rattle.rk_model.specs.Sources.{Seen, Goes}
 use Rattle.rk_model.specs.declared.op.Entry.{Entry}
 use Rattle.rk_pointmerge.specs.Merges.{merging_seen}
 use Rattle.rk_pointmerge.specs.MergeLaws.{united-sorted}
-use Rattle.rk_pointmerge.specs.Moves.{MovesOn}
+use Rattle.rk_pointmerge.specs.Moves.{MovesOn, go_reads}
 use Rattle.rk_pointmerge.specs.Views.{viewed, viewing_seen, marked, Views}
-use Rattle.rk_pointmerge.proofs.Runs.{rest_held}
+use Rattle.rk_model.proofs.Runs.{rest_held}
 use Rattle.rk_pointmerge.proofs.ViewPlaces.{view_goes, view_refused, view_moves, step_to}
+use Rattle.rk_pointmerge.proofs.ViewReads.{mark_reads}
 use Rattle.rk_pointmerge.proofs.visible.step.Goals as goal
 
 pub returns-clause-goes : goal.returns-clause-goes
@@ -50,3 +52,23 @@ returns-in_err-there-clause-goes g c =
     let p = err_from_is_err_and c.from_residual.result c.from_residual.ensures.1 in
     let goes = view_refused s t v.n v.mark (λ es. step_place c.args.ahead es (viewed s v.n v.mark).place) p.0 c.in_err-there.ensures.runs.same in
     rw (p.1, c.take.ensures.after) (subst (λ (x : Seen Entry). Goes {T = Unit {0}} {E = SourceError} x (viewed t v.n None) (λ es. step_place c.args.ahead es x.place) (Err p.0)) (ap (viewing_seen seen) c.visible.view_is) goes)
+
+pub returns-clause-reads : goal.returns-clause-reads
+returns-clause-reads g c =
+    let seen = g.S.PointList.seen in
+    let v = c.visible.inside in
+    let s = merging_seen seen v.merge in
+    let at = sym c.take.ensures.value ∙ c.in-Some.is in
+    let view = ap (viewed s v.n) (sym at) ∙ ap (viewing_seen seen) c.visible.view_is in
+    let most = mark_reads c.args.ahead s v.n 0 c.in-Some.at ∙ ap (go_reads c.args.ahead) view in
+    subst (RaisesAtMost (g.R.Counting.read_count c.args.reader.now) (g.R.Counting.read_count c.step.new.reader)) most c.in_ok-there.ensures.runs.reads
+
+pub returns-in_err-there-clause-reads : goal.returns-in_err-there-clause-reads
+returns-in_err-there-clause-reads g c =
+    let seen = g.S.PointList.seen in
+    let v = c.visible.inside in
+    let s = merging_seen seen v.merge in
+    let at = sym c.take.ensures.value ∙ c.in-Some.is in
+    let view = ap (viewed s v.n) (sym at) ∙ ap (viewing_seen seen) c.visible.view_is in
+    let most = mark_reads c.args.ahead s v.n 0 c.in-Some.at ∙ ap (go_reads c.args.ahead) view in
+    subst (RaisesAtMost (g.R.Counting.read_count c.args.reader.now) (g.R.Counting.read_count c.step.new.reader)) most c.in_err-there.ensures.runs.reads

@@ -6,7 +6,7 @@ use Rattle.rk_program.proofs.output.write_all.Goals as goal
 pub loop-rest-preserved : goal.loop-rest-preserved
 loop-rest-preserved g c = record {
   written = rw c.split_at.ensures.back (IsWritten-more _ _ _ _ _ _ c.loop-rest.invariant.written c.in-Ok.ensures.ok);
-  no_fault = c.in-Ok.ensures.cause.kept ∙ c.loop-rest.invariant.no_fault;
+  no_fault = c.in-Ok.ensures.cause.kept (λ e. cc) ∙ c.loop-rest.invariant.no_fault;
 }
 
 pub returns-in-Err-Memory-clause-part : goal.returns-in-Err-Memory-clause-part

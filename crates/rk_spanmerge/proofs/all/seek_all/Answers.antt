@@ -1,14 +1,11 @@
-use Rattle.std.proofs.Common.{◌≡◌, ◌<◌, arith, ap, refl, get_or, length}
+use Rattle.std.proofs.Common.{◌≡◌, ◌<◌, arith, ap, get_or, set, length}
+use Rattle.rk_model.specs.Runs.{at_rest, IsWithin}
+use Rattle.rk_merge.specs.Several.{all_rest}
+use Rattle.rk_model.proofs.Runs.{ran_from, ran_ran, ran_refused, runs_more}
+use Rattle.rk_merge.proofs.Several.{rest_length, done_more, left_more, total_step}
 use Rattle.rk_spanmerge.specs.Moves.{Stands}
-use Rattle.rk_spanmerge.proofs.Sources.{rest_length, done_more, left_more, total_step, one_sought, one_refused, sought_none}
+use Rattle.rk_spanmerge.proofs.Sources.{runs_set, rest_united}
 use Rattle.rk_spanmerge.proofs.all.seek_all.Goals as goal
-
-pub loop-source-init : goal.loop-source-init
-loop-source-init g c = record {
-  done = λ k d h. absurd (omega arith);
-  left = λ k d h. refl;
-  sought = sought_none g.S.SpanList.seen c.args.sources.now _ _ _;
-}
 
 pub loop-source-preserved : goal.loop-source-preserved
 loop-source-preserved g c =
@@ -20,14 +17,15 @@ loop-source-preserved g c =
     let e = c.source-item.result in
     let was = c.loop-source.invariant in
     let within : i < length nows = omega arith in
-    let short : i < length olds = omega (arith, rest_length seen nows olds was.sought.same) in
+    let short : i < length olds = omega (arith, rest_length seen nows olds was.ran.same) in
     let same : get_or nows i e ≡ get_or olds i e = was.left i e (omega arith) in
-    let sum = total_step (λ s. (seen s).seek_reads) olds i e short in
-    let most : (seen (get_or nows i e)).seek_reads ≡ (seen (get_or olds i e)).seek_reads = ap (λ s. (seen s).seek_reads) same in
+    let sum = total_step (λ s. (seen s).seek_most) olds i e short in
+    let most : (seen (get_or nows i e)).seek_most ≡ (seen (get_or olds i e)).seek_most = ap (λ s. (seen s).seek_most) same in
     record {
-      done = done_more (λ s. Stands c.args.ahead c.args.key.now (seen s)) nows i v within was.done c.in_ok-seek_one.ensures.ok;
+      done = done_more (λ s t. Stands c.args.ahead c.args.key.now (seen t) × IsWithin (seen t)) olds nows i v e within was.done was.left (c.in_ok-seek_one.ensures.ok, c.in_ok-seek_one.ensures.within);
       left = left_more olds nows i v was.left;
-      sought = one_sought seen olds nows i v e _ _ _ _ _ _ _ _ within c.in_ok-seek_one.ensures.same c.in_ok-seek_one.ensures.cause.kept c.in_ok-seek_one.ensures.reads (omega (arith, sum.0, most)) was.sought;
+      ran = ran_ran (all_rest seen olds) (all_rest seen nows) (all_rest seen (set nows i v)) _ _ _ _ _ _ _ _ _ (omega (arith, sum.0, most)) was.ran
+          (ran_from _ _ _ _ _ _ _ _ _ (runs_set seen nows i v e _ _ _ _ _ _ within (runs_more (at_rest (seen (get_or nows i e))) (at_rest (seen v)) _ _ _ _ _ _ (seen (get_or nows i e)).seek_most _ ((g.met.S.SpanSource.bounded (get_or nows i e)).seek c.args.key.now) c.in_ok-seek_one.ensures.runs)));
     }
 
 pub returns-in_err-seek_one-clause-seeks : goal.returns-in_err-seek_one-clause-seeks
@@ -40,8 +38,15 @@ returns-in_err-seek_one-clause-seeks g c =
     let e = c.source-item.result in
     let was = c.loop-source.invariant in
     let within : i < length nows = omega arith in
-    let short : i < length olds = omega (arith, rest_length seen nows olds was.sought.same) in
+    let short : i < length olds = omega (arith, rest_length seen nows olds was.ran.same) in
     let same : get_or nows i e ≡ get_or olds i e = was.left i e (omega arith) in
-    let sum = total_step (λ s. (seen s).seek_reads) olds i e short in
-    let most : (seen (get_or nows i e)).seek_reads ≡ (seen (get_or olds i e)).seek_reads = ap (λ s. (seen s).seek_reads) same in
-    one_refused seen olds nows i v e _ _ _ _ _ _ _ c.in_err-seek_one.field-0.0 _ within c.in_err-seek_one.ensures.same c.in_err-seek_one.ensures.cause c.in_err-seek_one.ensures.reads (omega (arith, sum.1, most)) was.sought c.from_residual.ensures.1
+    let sum = total_step (λ s. (seen s).seek_most) olds i e short in
+    let most : (seen (get_or nows i e)).seek_most ≡ (seen (get_or olds i e)).seek_most = ap (λ s. (seen s).seek_most) same in
+    ran_refused (all_rest seen olds) (all_rest seen nows) (all_rest seen (set nows i v)) _ _ _ _ _ _ _ _ _ _ _ c.in_err-seek_one.field-0.0 _ (rest_united seen nows olds was.ran.same) (omega (arith, sum.1, most)) was.ran
+    (runs_set seen nows i v e _ _ _ _ _ _ within (runs_more (at_rest (seen (get_or nows i e))) (at_rest (seen v)) _ _ _ _ _ _ (seen (get_or nows i e)).seek_most _ ((g.met.S.SpanSource.bounded (get_or nows i e)).seek c.args.key.now) c.in_err-seek_one.ensures.runs)) c.from_residual.ensures.1
+
+pub returns-clause-ok : goal.returns-clause-ok
+returns-clause-ok g c k d h = (c.loop-source.invariant.done k d (omega arith)).0
+
+pub returns-clause-within : goal.returns-clause-within
+returns-clause-within g c k d h = (c.loop-source.invariant.done k d (omega arith)).1

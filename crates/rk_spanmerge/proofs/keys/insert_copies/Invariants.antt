@@ -1,10 +1,6 @@
-use Rattle.std.proofs.Common.{◌≡◌, ◌≤◌, drop}
-use Rattle.rk_fragment.specs.Fragments.{FallsBy}
+use Rattle.std.proofs.Common.{◌≡◌, drop}
 use Rattle.rk_spanmerge.specs.Moves.{insert_all}
 use Rattle.rk_spanmerge.proofs.keys.insert_copies.Given as goal
 
 abbrev pub invariant-loop-i : goal.invariant-loop-i
-invariant-loop-i l = record {
-  put : l.keys.items ≡ insert_all (drop l.i l.more) l.fn.keys.items;
-  falls : FallsBy (λ m n. m ≤ n) l.keys.items;
-}
+invariant-loop-i l = l.keys ≡ insert_all (drop l.i l.more) l.fn.keys

@@ -10,8 +10,8 @@ invariant_of-self-2 c =
     let put = c.in_ok-insert.ensures.items ∙ inserted c.args.key old at (rw c.deref.ensures.value at c.count_newer-at.ensures.within) (rw c.deref.ensures.value at c.count_newer-at.ensures.newer) in
     rw put (insert_keeps_falling c.args.key old c.self.invariant)
 
-pub returns : goal.returns
-returns c =
+pub returns-clause-ok : goal.returns-clause-ok
+returns-clause-ok c =
     let old = c.self.inside.keys.items in
     let at = c.count_newer-at.result in
     c.in_ok-insert.ensures.items

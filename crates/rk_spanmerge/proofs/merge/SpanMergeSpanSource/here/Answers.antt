@@ -10,4 +10,4 @@ returns g c =
     let seen = g.S.SpanList.seen in
     let m = c.self.inside in
     subst (λ (v : Merging g.row.S.Denot). IsHere (merging_seen seen v) (option_copied c.as_ref.result)) c.self.view_is
-    (here_is seen (united-sorted seen) (record { sources = m.sources.items; current = m.current; steps = m.steps }) c.self.invariant (option_copied c.as_ref.result) c.as_ref.ensures.value)
+    (here_is seen (united-sorted seen) (record { sources = m.sources.items; current = m.current; ahead = m.ahead; steps = m.steps }) c.self.invariant (option_copied c.as_ref.result) c.as_ref.ensures.value)

@@ -1,0 +1,90 @@
+-- Worked examples: what the definitions give on three short lists, of versions of one key and of others. Each is
+-- computed.
+use Rattle.std.proofs.Common.{◌≡◌, ℕ, List, [], ◌∷◌, Some, None, refl, length, true, false}
+use Rattle.std.specs.Prelude.{codes}
+use Rattle.rk_model.specs.declared.op.Op.{Op}
+use Rattle.rk_model.specs.declared.op.Op.TheVariants.{Put, Del}
+use Rattle.rk_model.specs.declared.op.Entry.{Entry}
+use Rattle.rk_model.specs.Sources.{Seen, in_memory, sound_points}
+use Rattle.rk_pointmerge.specs.Merges.{united, merged, merged_turn, end_reads}
+use Rattle.rk_pointmerge.specs.Views.{visible}
+
+abbrev entry : ℕ → Op → Entry
+entry n op = record { op = op; seq = n }
+
+abbrev put_a : Entry
+put_a = entry 1 (Put (codes "a") (codes "x"))
+
+abbrev delete_a : Entry
+delete_a = entry 2 (Del (codes "a"))
+
+abbrev put_b : Entry
+put_b = entry 3 (Put (codes "b") (codes "y"))
+
+abbrev put_c : Entry
+put_c = entry 1 (Put (codes "c") (codes "z"))
+
+abbrev lists : List (List Entry)
+lists = (delete_a ∷ put_a ∷ []) ∷ (put_b ∷ []) ∷ (put_c ∷ []) ∷ []
+
+abbrev all : List Entry
+all = delete_a ∷ put_a ∷ put_b ∷ put_c ∷ []
+
+abbrev list : List Entry → Seen Entry
+list es = in_memory 2 (sound_points es) None
+
+-- by key, and the newest first within one key
+their_union : united list lists ≡ Some all
+their_union = refl
+
+one_number_twice : united list ((put_a ∷ []) ∷ (put_a ∷ []) ∷ []) ≡ None
+one_number_twice = refl
+
+-- the third source stands at its entry, and the others beyond their ends
+abbrev stood : List (Seen Entry)
+stood = in_memory 2 (sound_points (delete_a ∷ put_a ∷ [])) None ∷ in_memory 1 (sound_points (put_b ∷ [])) None ∷ in_memory 1 (sound_points (put_c ∷ [])) (Some 0) ∷ []
+
+their_last_place : (merged (λ s. s) stood (Some 2) true).place ≡ Some 3
+their_last_place = refl
+
+-- what turns read where a seek reads ten, a step one, and a turn two more
+abbrev dear : List Entry → Seen Entry
+dear es = record {
+  held = sound_points es;
+  place = None;
+  count = length es;
+  seek_reads = λ key. 10;
+  seek_most = 10;
+  step_reads = λ gap. 1;
+  turn_reads = λ place. 2;
+  turn_to_next = 0;
+  turn_to_prev = 0;
+}
+
+-- ahead from the first entry two sources seek, as they have none up to it, and from the last one none does
+a_turn_ahead_at_the_first_entry : merged_turn true dear (Some all) lists 0 ≡ 23
+a_turn_ahead_at_the_first_entry = refl
+
+a_turn_ahead_at_the_last_entry : merged_turn true dear (Some all) lists 3 ≡ 9
+a_turn_ahead_at_the_last_entry = refl
+
+-- back it is the other way round, and such a source seeks twice
+a_turn_back_at_the_first_entry : merged_turn false dear (Some all) lists 0 ≡ 9
+a_turn_back_at_the_first_entry = refl
+
+a_turn_back_at_the_last_entry : merged_turn false dear (Some all) lists 3 ≡ 43
+a_turn_back_at_the_last_entry = refl
+
+-- and walks twice over what it has from the key on
+the_way_to_the_end_over_two_versions : end_reads (codes "a") (dear (delete_a ∷ put_a ∷ [])) ≡ 24
+the_way_to_the_end_over_two_versions = refl
+
+-- b is too new for it, and the delete of a hides the put
+what_is_visible_at_two : visible 2 all ≡ put_c ∷ []
+what_is_visible_at_two = refl
+
+the_put_before_the_delete : visible 1 (delete_a ∷ put_a ∷ []) ≡ put_a ∷ []
+the_put_before_the_delete = refl
+
+nothing_after_the_delete : visible 2 (delete_a ∷ put_a ∷ []) ≡ []
+nothing_after_the_delete = refl

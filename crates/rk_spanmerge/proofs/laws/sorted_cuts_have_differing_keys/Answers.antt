@@ -1,0 +1,5 @@
+use Rattle.rk_spanmerge.proofs.Differing.{sorted_cuts_differ}
+use Rattle.rk_spanmerge.proofs.laws.sorted_cuts_have_differing_keys.Goals as goal
+
+pub returns : goal.returns
+returns c = sorted_cuts_differ
