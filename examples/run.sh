@@ -2,7 +2,7 @@
 # Runs the program on each command file NAME.rk of this folder, and compares what it writes with NAME.out, what it says
 # on standard error with NAME.err, and its exit status with NAME.status. Where there is no such file, nothing is to be
 # written or said, and the status is to be 0. NAME.args has the words, one a line, where they are not the one word `run`.
-# Then it runs the program where its input or its output fails.
+# Then it runs the program where its input, its output or its standard error fails, and with a word that is no text.
 set -u
 cd "$(dirname "$0")/.." || exit 1
 # This builds the program where it is not built. An empty command file writes nothing.
@@ -68,4 +68,11 @@ fails_with 'source fault' 4 <examples >>"$room/none"
 fails_with 'sink fault' 5 <examples/empty.rk >/dev/full
 [ ! -s "$room/none" ]
 tell 'nothing written' "$?"
+
+./rkrange run $'\xff' </dev/null 2>"$room/err"
+[ "$?" -eq 2 ] && diff <(echo 'rkrange: words') "$room/err" >&2
+tell 'a word that is no text' "$?"
+./rkrange </dev/null 2>/dev/full
+[ "$?" -eq 2 ]
+tell 'the line is not taken' "$?"
 exit "$failed"

@@ -5,12 +5,14 @@
 //! At status 0 nothing goes to standard error. Any other end is told there in one line.
 #![tactic(auto)]
 
-mod message;
+ghost use Rattle.std.specs.Prelude.{◌≡◌, ◌↔◌, ◌⊎◌, IfOk, IfErr, IsErr, IsErrOf, drop};
+ghost use Rattle.std.specs.Vec.Iter.{into_iter_items};
+ghost use Rattle.std.specs.Process.{exit_status};
+ghost use Rattle.rk_program.specs.Ends.{status_of};
 
-use message::Message;
 use rk_outside::{ReadSource, WriteSink};
 use rk_program::{Cause, run};
-use std::alloc::Global;
+use std::alloc::{AllocError, Global};
 use std::env::{self, Args};
 use std::io;
 use std::process::ExitCode;
@@ -26,21 +28,33 @@ fn main(rt: HostRuntime) -> ExitCode {
     };
     if cause != Cause::Done {
         // Where the line can't be written, the status still tells of the end.
-        let _ = eprintln!(rt; "rkrange: {}", Message { cause });
+        let _ = eprintln!(rt; "rkrange: {cause}");
     }
     exit_code(&cause)
 }
 
 // The words after the program's name. Where they can't be had, as where one is no text, they are none that
 // the program takes.
-fn words(args: io::Result<Args>, alloc: Global) -> Result<Vec<String>, Cause> {
-    let args = args.map_err(|_| Cause::Words)?;
-    args.skip(1).collect(alloc).map_err(|_| Cause::Memory)
+fn words(args: io::Result<Args>, alloc: Global) -> Result<Vec<String>, Cause>
+    ensures ok { IfOk result (λ words. IfOk args (λ all. words.items ≡ drop 1 (into_iter_items all))) }
+    ensures refused { IsErrOf result Cause.Words ↔ IsErr args }
+    ensures memory { IfErr result (λ cause. (cause ≡ Cause.Words) ⊎ (cause ≡ Cause.Memory)) }
+{
+    let Ok(args) = args else {
+        return Err(Cause::Words);
+    };
+    match behind_name(args, alloc) {
+        Ok(words) => Ok(words),
+        Err(_) => Err(Cause::Memory),
+    }
 }
 
-ghost use Rattle.std.specs.Prelude.{◌≡◌};
-ghost use Rattle.std.specs.Process.{exit_status};
-ghost use Rattle.rk_program.specs.Ends.{status_of};
+// The arguments without the program's name.
+fn behind_name(args: Args, alloc: Global) -> Result<Vec<String>, AllocError>
+    ensures { IfOk result (λ words. words.items ≡ drop 1 (into_iter_items args)) }
+{
+    args.skip(1).collect(alloc)
+}
 
 // What the process ends with after a run that ended so.
 fn exit_code(cause: &Cause) -> ExitCode

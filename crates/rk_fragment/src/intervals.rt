@@ -6,7 +6,7 @@ ghost use Rattle.rk_key.specs.Keys.{key_cmp};
 ghost use Rattle.rk_fragment.specs.Fragments.{written};
 ghost use Rattle.rk_fragment.specs.Intervals.{Rises, starts, with_key, with_entry, interval_at};
 
-use crate::ends::{op_ends, written_ends};
+use crate::ends::written_ends;
 use crate::keys::{NewestFirst, range_key};
 use rk_key::UserKey;
 use rk_model::{Entry, RangeKey};
@@ -59,7 +59,7 @@ fn insert_entry(alloc: Global, intervals: &mut [Interval], entry: &Entry) -> Res
     requires { Rises (starts intervals.old) }
     ensures { OnOk result (intervals.new ≡ map (with_entry entry.now) intervals.old) }
 {
-    let Some((start, end)) = op_ends(&entry.op) else {
+    let Some((start, end)) = entry.op.ends() else {
         return Ok(());
     };
     let Some(key) = range_key(alloc, entry)? else {

@@ -21,7 +21,8 @@ use Rattle.rk_laws.specs.SameCells.{op_keys, WellFormed, KeyBounds, SameCovers, 
 use Rattle.rk_model.specs.Lists.{Among}
 use Rattle.rk_model.proofs.Members.{among_all, among_filter, filter_among, flat_map_among, same_ascending}
 use Rattle.rk_laws.proofs.Order.{key_total, lt_trans, ge_trans, eq_is, eq_from}
-use Rattle.rk_laws.proofs.Ends.{lt, Like, IsEnd, lower, upper, inner, is_end, end_is, Floor, none, some, floor, sorted_among, among_sorted, sorted_ascends}
+use Rattle.rk_model.proofs.SortedKeys.{Like, sorted_among, among_sorted}
+use Rattle.rk_laws.proofs.Ends.{lt, IsEnd, lower, upper, inner, is_end, end_is, Floor, none, some, floor, sorted_ascends}
 use Rattle.rk_laws.proofs.Plain.{cover_alike}
 use Rattle.rk_laws.proofs.Cuts.{cover_at_floor, cover_below_ends, at_or_above_from}
 use Rattle.rk_laws.proofs.Widest.{span_parts, IsStart, IsStop, span_is, span_there, one_up_to, same_cover_from, back, self}

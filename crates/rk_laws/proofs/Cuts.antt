@@ -13,7 +13,8 @@ use Rattle.rk_model.specs.declared.options.IterOptions.{IterOptions}
 use Rattle.rk_model.specs.Lists.{Among}
 use Rattle.rk_model.proofs.Members.{among_flat_map}
 use Rattle.rk_laws.proofs.Order.{key_total, lt_itself, lt_back, lt_trans, ge_trans, ge_lt}
-use Rattle.rk_laws.proofs.Ends.{lt, Like, IsEnd, lower, upper, inner, is_end, end_is}
+use Rattle.rk_model.proofs.SortedKeys.{Like}
+use Rattle.rk_laws.proofs.Ends.{lt, IsEnd, lower, upper, inner, is_end, end_is}
 use Rattle.rk_laws.proofs.Plain.{all_ends, is_span, cover_agrees, cover_none}
 
 -- between a key at or above the lower bound and one above it

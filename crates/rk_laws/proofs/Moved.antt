@@ -23,7 +23,8 @@ use Rattle.rk_model.specs.declared.cursor.Cursor.TheVariants.{Fresh, Start, At, 
 use Rattle.rk_laws.specs.SameCells.{op_keys, WellFormed, KeyBounds, GiveSameCovers, GiveSameCells, PositionsOfCells, ReportsOfCells, SeeksKey, MovesOfCells, AtKeyWithin, MovesToKeys, ChangesOfCovers, ViewsOfCells}
 use Rattle.rk_model.proofs.Members.{among_append, among_left, among_right, among_filter, filter_among, among_flat_map, flat_map_among, first_among}
 use Rattle.rk_laws.proofs.Order.{key_total, eq_is}
-use Rattle.rk_laws.proofs.Ends.{lt, sorted_among}
+use Rattle.rk_model.proofs.SortedKeys.{sorted_among}
+use Rattle.rk_laws.proofs.Ends.{lt}
 use Rattle.rk_laws.proofs.Agree.{key_of_op, sorted_same, span_ends_shared, span_end_keyed, turned, spans_of_covers}
 use Rattle.rk_laws.proofs.Places.{shown_puts, span_ends, Sought, moved_is, cursor_within_bounds}
 

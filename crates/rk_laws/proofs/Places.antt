@@ -14,7 +14,8 @@ use Rattle.rk_model.specs.declared.cursor.Cursor.{Cursor}
 use Rattle.rk_model.specs.declared.cursor.Cursor.TheVariants.{Fresh, Start, At, End}
 use Rattle.rk_laws.specs.Neighbours.{RisesStrictly, PositionsRise, CursorWithinBounds}
 use Rattle.rk_model.proofs.Members.{Ascending, among_append, filter_among, first_among}
-use Rattle.rk_laws.proofs.Ends.{lt, sorted_ascends, sorted_among}
+use Rattle.rk_model.proofs.SortedKeys.{sorted_among}
+use Rattle.rk_laws.proofs.Ends.{lt, sorted_ascends}
 
 -- the puts with a shown point
 abbrev pub shown_puts : List Entry → IterOptions → List (List ℕ)

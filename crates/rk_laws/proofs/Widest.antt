@@ -15,7 +15,8 @@ use Rattle.rk_model.specs.declared.options.IterOptions.{IterOptions}
 use Rattle.rk_laws.specs.Neighbours.{SpanOfEachCover, SpanHasOneCover, SpanOfItsKeys, SpanEndDiffers, BeforeSpanDiffers, is_between}
 use Rattle.rk_model.proofs.Members.{Ascending, among_all, ascending_filter, among_filter, filter_among, first_among, first_is, first_least, every_gives, every_from, any_false}
 use Rattle.rk_laws.proofs.Order.{key_total, lt_itself, lt_back, ge_trans, lt_ge, ge_lt, eq_is, eq_from}
-use Rattle.rk_laws.proofs.Ends.{lt, Like, IsEnd, lower, upper, inner, is_end, end_is, Floor, none, some, floor, ends_ascend, Greatest, empty, top, greatest}
+use Rattle.rk_model.proofs.SortedKeys.{Like}
+use Rattle.rk_laws.proofs.Ends.{lt, IsEnd, lower, upper, inner, is_end, end_is, Floor, none, some, floor, ends_ascend, Greatest, empty, top, greatest}
 use Rattle.rk_laws.proofs.Plain.{cover_alike}
 use Rattle.rk_laws.proofs.Cuts.{cover_at_floor, cover_below_ends, end_at_or_above, end_at_or_below, cover_above_ends, below_from, at_or_above_from}
 

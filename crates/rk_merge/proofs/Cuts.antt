@@ -1,5 +1,6 @@
 -- Cuts of sorted lists, and what is seen from them.
-use Rattle.std.proofs.Common.{◌≡◌, ℕ, zero, suc, ◌+◌, ◌-◌, ◌<◌, ◌≤◌, length, Bool, true, false, not, List, [], ◌∷◌, Option, Some, None, is_some, slice_get, nat_lt, cond, refl, ap, sym, ◌∙◌, ◌⊎◌, inl, inr, arith, Ordering, add-one, lt-ltb, le-ltb, ltb-true, ltb-false}
+use Rattle.std.proofs.Common.{◌≡◌, ℕ, zero, suc, ◌+◌, ◌-◌, ◌<◌, ◌≤◌, length, Bool, true, false, not, List, [], ◌∷◌, Option, Some, None, is_some, slice_get, cond, refl, ap, sym, ◌∙◌, ◌⊎◌, inl, inr, arith, Ordering, add-one, lt-ltb, le-ltb}
+use Rattle.std.proofs.lemmas.Bool.{cases_lt}
 use Rattle.std.specs.Option.{option_or}
 use Rattle.std.specs.Ordering.{is_lt}
 use Rattle.std.specs.Cmp.{IsTotalOrder}
@@ -20,13 +21,6 @@ before_suc n =
     let h : 0 < suc n = omega arith in
     let e : suc n - 1 ≡ n = omega arith in
     rw (lt-ltb 0 (suc n) h) (ap (λ m. Some m) e)
-
-pub lt_or_le : (m n : ℕ) → (m < n) ⊎ (n ≤ m)
-lt_or_le m n = go (nat_lt m n) refl
-  where
-    go : (b : Bool) → nat_lt m n ≡ b → (m < n) ⊎ (n ≤ m)
-    go true e = inl (ltb-true m n e)
-    go false e = inr (ltb-false m n e)
 
 pub cut_within : {A : Type 0} (t : A → Bool) (xs : List A) → count_before t xs ≤ length xs
 cut_within t [] = omega arith
@@ -57,7 +51,7 @@ cut_none t (x ∷ xs) none = rw (none x (inl refl)) refl
 -- what is seen from a cut stands at its place
 behind_item : {A : Type 0} (t : A → Bool) (xs : List A) → item_at xs (behind_cut (count_before t xs) (length xs)) ≡ first_behind t xs
 behind_item t [] = refl
-behind_item {A} t (x ∷ xs) = go (t x) (count_before t xs) (first_behind t xs) (lt_or_le (count_before t xs) (length xs)) (behind_item t xs)
+behind_item {A} t (x ∷ xs) = go (t x) (count_before t xs) (first_behind t xs) (cases_lt (count_before t xs) (length xs)) (behind_item t xs)
   where
     go : (b : Bool) (n : ℕ) (l : Option A) → (n < length xs) ⊎ (length xs ≤ n) → item_at xs (behind_cut n (length xs)) ≡ l → item_at (x ∷ xs) (behind_cut (cond b (n + 1) 0) (length (x ∷ xs))) ≡ cond b l (Some x)
     go true n l (inl h) ih =
@@ -210,7 +204,7 @@ module _ {A : Type 0} {cmp : A → A → Ordering} (o : IsTotalOrder cmp) where
 pub cross : {A : Type 0} (ahead : Bool) (n : ℕ) (xs : List A) (i : ℕ) → place_near (not ahead) n (length xs) ≡ Some i → step_place ahead xs (Some i) ≡ place_near ahead n (length xs)
 cross true zero xs i e = cc
 cross true (suc n) xs i e = let f : n ≡ i = cc (before_suc n) in rw (← f, add-one) refl
-cross {A} false n xs i e = go (lt_or_le n (length xs))
+cross {A} false n xs i e = go (cases_lt n (length xs))
   where
     go : (n < length xs) ⊎ (length xs ≤ n) → before_cut i ≡ before_cut n
     go (inl h) = let f : i ≡ n = cc (behind_some n (length xs) h) in ap before_cut f

@@ -3,4 +3,5 @@ pub mod Lists
 pub mod Cuts
 pub mod Unions
 pub mod Merged
-pub mod Sums
+pub mod Totals
+pub mod Loops

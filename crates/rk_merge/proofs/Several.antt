@@ -1,5 +1,5 @@
 -- Several sources together: what no call changes of them, and sums over them.
-use Rattle.std.proofs.Common.{◌≡◌, ℕ, zero, suc, ◌+◌, ◌<◌, ◌≤◌, length, get_or, set, take, Bool, true, false, ◌&&◌, List, [], ◌∷◌, Option, Some, None, is_some, Result, Ok, Err, IfErr, refl, ap, sym, ◌∙◌, arith, add-one, ◌≢◌, ◌⊎◌, inl, inr, get_or-set_same, get_or-set_other}
+use Rattle.std.proofs.Common.{◌≡◌, ℕ, zero, suc, ◌+◌, ◌<◌, ◌≤◌, length, get_or, set, Bool, true, false, ◌&&◌, List, [], ◌∷◌, Option, Some, None, is_some, Result, Ok, Err, IfErr, refl, ap, sym, ◌∙◌, arith, ◌≢◌, ◌⊎◌, inl, inr, get_or-set_same, get_or-set_other}
 use Rattle.std.proofs.lemmas.Bool.{cases_eq}
 use Rattle.std.specs.List.{list_all}
 use Rattle.rk_outside.specs.Causes.{IsSourceRefusal}
@@ -8,21 +8,6 @@ use Rattle.rk_outside.specs.declared.error.SourceError.TheVariants.{Memory, Read
 use Rattle.rk_model.specs.Sources.{Seen}
 use Rattle.rk_model.specs.Runs.{at_rest, Runs}
 use Rattle.rk_merge.specs.Several.{total, all_rest}
-
-pub total_step : {S : Type 0} (f : S → ℕ) (ss : List S) (k : ℕ) (d : S) → k < length ss → (total f (take (k + 1) ss) ≡ total f (take k ss) + f (get_or ss k d)) × (total f (take k ss) + f (get_or ss k d) ≤ total f ss)
-total_step f [] k d h = absurd (omega arith)
-total_step f (s ∷ ss) zero d h = (omega arith, omega arith)
-total_step f (s ∷ ss) (suc k) d h =
-    let ih = total_step f ss k d (omega arith) in
-    let e = ih.0 in
-    let le = ih.1 in
-    (rw add-one (omega (arith, rw add-one at e)), omega arith)
-
-pub total_front : {S : Type 0} (f : S → ℕ) (ss : List S) (k : ℕ) → total f (take k ss) ≤ total f ss
-total_front f [] zero = omega arith
-total_front f [] (suc k) = omega arith
-total_front f (s ∷ ss) zero = omega arith
-total_front f (s ∷ ss) (suc k) = let ih = total_front f ss k in omega arith
 
 module _ {S A : Type 0} (seen : S → Seen A) where
   pub rest_set : (ss : List S) (k : ℕ) (v d : S) → k < length ss → at_rest (seen v) ≡ at_rest (seen (get_or ss k d)) → all_rest seen (set ss k v) ≡ all_rest seen ss
@@ -79,9 +64,9 @@ module _ {S A : Type 0} (seen : S → Seen A) where
       record { same = rest_set ss k v d h runs.same; cause = record { later = later; failed = up; kept = kept }; reads = runs.reads }
     where
       refusal : (one : Option (List A)) → (one ≡ None → held ≡ None) → (e : SourceError) → IsSourceRefusal one f f' e → IsSourceRefusal held f f' e
-      refusal one none Memory w = tt
+      refusal one none Memory w = w
       refusal one none (ReadFault n) w = w
-      refusal None none (BadTable file at) w = rw (none refl) tt
+      refusal None none (BadTable file at) w = rw (none refl) w
       refusal (Some es) none (BadTable file at) w = absurd w
 
       failed : (result : Result T SourceError) (one : Option (List A)) → (one ≡ None → held ≡ None) → IfErr result (IsSourceRefusal one f f') → IfErr result (IsSourceRefusal held f f')

@@ -1,4 +1,5 @@
 pub mod Unions
 pub mod Several
+pub mod Directions
 pub mod Cuts
 pub mod Laws

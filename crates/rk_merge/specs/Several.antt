@@ -1,5 +1,5 @@
 -- Several sources together: what no call changes of them, and sums over them.
-use Rattle.std.specs.Prelude.{ℕ, zero, suc, ◌+◌, List, [], ◌∷◌, map}
+use Rattle.std.specs.Prelude.{ℕ, ◌+◌, List, [], ◌∷◌, map}
 use Rattle.rk_model.specs.Sources.{Seen}
 use Rattle.rk_model.specs.Runs.{at_rest}
 
@@ -10,8 +10,3 @@ all_rest seen ss = map (λ s. at_rest (seen s)) ss
 abbrev pub total : {S : Type 0} → (S → ℕ) → List S → ℕ
 total f [] = 0
 total f (s ∷ ss) = f s + total f ss
-
--- the sum of a number of each place, from the first to one
-abbrev pub sum_to : (ℕ → ℕ) → ℕ → ℕ
-sum_to f zero = f 0
-sum_to f (suc n) = sum_to f n + f (suc n)

@@ -12,5 +12,8 @@ pub mod Searches
 pub mod Points
 pub mod Positions
 pub mod Seeks
+pub mod SortedKeys
 pub mod Spans
+pub mod Spendings
+pub mod Sums
 pub mod Walks

@@ -66,7 +66,7 @@ ran_refused {X} {A} {T} {U} x y z h h' f f' f'' r r' r'' m n k e given p le ran 
 pub ran_memory : {X A T : Type 0} (x y : X) (h : Option A) (f f' r r' m k : ℕ) → m ≤ k → Ran x y f f' r r' m → Runs {T = T} x y h f f' r r' k (Err Memory)
 ran_memory x y h f f' r r' m k le ran = record {
   same = ran.same;
-  cause = let e = ran.faults in record { later = omega arith; failed = tt; kept = tt };
+  cause = let e = ran.faults in record { later = omega arith; failed = ran.faults; kept = tt };
   reads = let a = ran.reads.later in let b = ran.reads.bound in record { later = a; bound = omega arith };
 }
 

@@ -9,4 +9,5 @@ pub mod Named
 pub mod Plain
 pub mod Sources
 pub mod SourceLaws
+pub mod Reads
 pub mod Runs

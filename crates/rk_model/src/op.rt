@@ -1,4 +1,5 @@
-ghost use Rattle.std.specs.Prelude.{◌≡◌, IfOk};
+ghost use Rattle.std.specs.Prelude.{◌≡◌, IfOk, MatchOption, [], ◌∷◌};
+ghost use Rattle.rk_model.specs.Spans.{op_ends};
 
 use crate::copies::copy_key;
 use rk_key::{Suffix, UserKey};
@@ -73,6 +74,18 @@ impl Op {
                 start: copy_key(start)?,
                 end: copy_key(end)?,
             }),
+        }
+    }
+
+    /// The start and the end of an operation on a span. It takes no memory.
+    pub fn ends(&self) -> Option<(&UserKey, &UserKey)>
+        ensures { MatchOption result (op_ends self.now ≡ []) (λ ends. op_ends self.now ≡ ends.0.now ∷ ends.1.now ∷ []) }
+    {
+        match self {
+            Op::Put { .. } | Op::Del { .. } => None,
+            Op::RangeSet { start, end, .. }
+            | Op::RangeUnset { start, end, .. }
+            | Op::RangeDel { start, end } => Some((start, end)),
         }
     }
 }

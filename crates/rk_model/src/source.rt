@@ -24,8 +24,8 @@ pub trait PointSource<R: Counting>: PointList {
     ///
     /// # Errors
     ///
-    /// `ReadFault` only where the reader's count rose in this call, with that count, and `BadTable` only where
-    /// the list isn't told. There is no place then.
+    /// `ReadFault` only where the reader's count of faults rose in this call, with that count, and `BadTable` only
+    /// where the list isn't told. All else leaves that count. After a refusal there is no place.
     fn seek_ge(&mut self, reader: &mut R, key: &UserKey) -> Result<(), SourceError>
         ensures goes { Goes (Self.seen self.old) (Self.seen self.new) (λ xs. point_ge key.now xs) result }
         ensures ahead { OnOk result ((Self.seen self.new).turn_to_next ≡ 0) }
@@ -94,8 +94,8 @@ pub trait SpanSource<R: Counting>: SpanList {
     ///
     /// # Errors
     ///
-    /// `ReadFault` only where the reader's count rose in this call, with that count, and `BadTable` only where
-    /// the list isn't told. There is no place then.
+    /// `ReadFault` only where the reader's count of faults rose in this call, with that count, and `BadTable` only
+    /// where the list isn't told. All else leaves that count. After a refusal there is no place.
     fn seek_ge(&mut self, reader: &mut R, key: &UserKey) -> Result<(), SourceError>
         ensures goes { Goes (Self.seen self.old) (Self.seen self.new) (λ xs. span_ge key.now xs) result }
         ensures ahead { OnOk result ((Self.seen self.new).turn_to_next ≡ 0) }

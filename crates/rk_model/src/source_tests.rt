@@ -1,6 +1,6 @@
 use crate::{
-    Entry, ListPoints, ListSpans, Op, RangeKey, RangeKeys, RangeKind, Span, SpanSource,
-    points_before, points_from,
+    Cursor, Entry, ListPoints, ListSpans, Op, RangeKey, RangeKeys, RangeKind, Span, SpanSource,
+    SuffixValue, points_before, points_from,
 };
 use rk_key::{read_key, read_suffix};
 use rk_outside::{Bytes, Counting, NoReads};
@@ -75,5 +75,69 @@ fn a_span_is_found_by_its_end_and_by_its_start(rt: HostRuntime) -> Result<(), Fa
     assert_eq!(rt; newest(&source, &reader), Some(2));
     source.seek_lt(&mut reader, &c)?;
     assert_eq!(rt; newest(&source, &reader), Some(1));
+    Ok(())
+}
+
+// One step, where there is a place, and the number of the newest range key behind it.
+fn stepped<R: Counting, S: SpanSource<R>>(
+    source: &mut S,
+    reader: &mut R,
+    ahead: bool,
+) -> Result<Option<u64>, Fail> {
+    let Some(_span) = source.here() else {
+        return Ok(None);
+    };
+    if ahead {
+        source.next(reader)?;
+    } else {
+        source.prev(reader)?;
+    }
+    Ok(newest(source, reader))
+}
+
+#[test]
+fn spans_are_walked_to_both_ends(rt: HostRuntime) -> Result<(), Fail> {
+    let alloc = rt.alloc();
+    let mut spans = Vec::new(alloc);
+    for (start, end, seq) in [(b"a", b"c", 1), (b"c", b"e", 2), (b"f", b"g", 3)] {
+        spans.push(span(alloc, start, end, seq)?)?;
+    }
+    let mut source = ListSpans::new(spans);
+    let c = read_key(alloc, b"c")?;
+    let mut reader = NoReads;
+    source.seek_lt(&mut reader, &c)?;
+    for (ahead, number) in [
+        (true, Some(2)),
+        (true, Some(3)),
+        (false, Some(2)),
+        (false, Some(1)),
+        (false, None),
+    ] {
+        assert_eq!(rt; stepped(&mut source, &mut reader, ahead)?, number);
+    }
+    Ok(())
+}
+
+#[test]
+fn copies_are_equal(rt: HostRuntime) -> Result<(), Fail> {
+    let alloc = rt.alloc();
+    let copied = span(alloc, b"a", b"c", 7)?.copy()?;
+    assert_eq!(rt; copied.start.bytes(), b"a".as_slice());
+    assert_eq!(rt; copied.end.bytes(), b"c".as_slice());
+    let keys = copied.keys.into_vec();
+    assert_eq!(rt; keys.len(), 1);
+    let RangeKey {
+        kind,
+        seq,
+        suffix,
+        value,
+    } = keys[0].copy()?;
+    assert!(rt; kind == RangeKind::Set && seq == 7);
+    let pair = SuffixValue { suffix, value }.copy()?;
+    assert_eq!(rt; pair.suffix.bytes(), b"@5".as_slice());
+    assert_eq!(rt; pair.value.bytes(), b"x".as_slice());
+    let at = Cursor::At(read_key(alloc, b"b")?).copy()?;
+    assert!(rt; matches!(&at, Cursor::At(key) if key.bytes() == b"b".as_slice()));
+    assert!(rt; matches!(Cursor::End.copy()?, Cursor::End));
     Ok(())
 }

@@ -13,6 +13,10 @@ pub record Calls : Type 0 where
 abbrev pub one_more : ℕ → ℕ
 one_more n = min (n + 1) (2 ^ 64 - 1)
 
+-- a count of faults after a call that failed or not
+abbrev pub faults_after : Bool → ℕ → ℕ
+faults_after failed n = if failed then one_more n else n
+
 -- before the first call
 abbrev pub no_calls : List ℕ → Calls
 no_calls fail = record { fail = fail; made = 0; faults = 0 }
@@ -26,7 +30,7 @@ abbrev pub after_call : Bool → Calls → Calls
 after_call failed calls = record {
   fail = calls.fail;
   made = one_more calls.made;
-  faults = if failed then one_more calls.faults else calls.faults;
+  faults = faults_after failed calls.faults;
 }
 
 -- the answer is `Failed`

@@ -1,5 +1,5 @@
 -- When a failure has a cause: a count of faults that rose in the call.
-use Rattle.std.specs.Prelude.{◌≡◌, ℕ, ◌+◌, ◌-◌, ◌^◌, ◌≤◌, min, Option, Some, None, Result, OnOk, OnErr, IfErr, IsErrOf, ⊤}
+use Rattle.std.specs.Prelude.{◌≡◌, ℕ, ◌+◌, ◌-◌, ◌^◌, ◌≤◌, min, Option, Some, None, Result, OnOk, OnErr, IfErr, IsErrOf}
 use Rattle.rk_outside.specs.declared.error.SourceError.{SourceError}
 use Rattle.rk_outside.specs.declared.error.SourceError.TheVariants.{Memory, ReadFault, BadTable}
 
@@ -25,11 +25,11 @@ pub record RaisesAtMost (before now most : ℕ) : Type 0 where
   pub bound : now ≤ before + most
 
 -- Why a source of entries refused: memory may run out at any time, a fault carries the count that rose, and a
--- source that tells what it holds has no bad table.
+-- source that tells what it holds has no bad table. Where it is no fault that is answered, the count stayed.
 abbrev pub IsSourceRefusal : {A : Type 0} → Option A → ℕ → ℕ → SourceError → Type 0
-IsSourceRefusal held before now Memory = ⊤
+IsSourceRefusal held before now Memory = now ≡ before
 IsSourceRefusal held before now (ReadFault faults) = (faults ≡ now) × Rose before now
-IsSourceRefusal None before now (BadTable file at) = ⊤
+IsSourceRefusal None before now (BadTable file at) = now ≡ before
 IsSourceRefusal (Some held) before now (BadTable file at) = ⊥
 
 -- the count never falls, a refusal has its cause, and no fault is passed over

@@ -1,8 +1,8 @@
 //! What stands outside the store: bytes, memory that runs out, and objects that fail. It stands on std alone.
 //!
 //! A source is read, a sink is written. Each counts its faults in a number that never falls, and a call
-//! answers `Failed` only where that count rose in the call, and `Ok` only where it stayed: so no failure is
-//! made up, and none is passed over. What a source has left, and what was written to a sink, is told where the
+//! answers `Failed` only where that count rose in the call, and anything else only where it stayed: so no
+//! failure is made up, and none is passed over. What a source has left, and what was written to a sink, is told where the
 //! implementation knows it. Then a read says which bytes it took, and a write which it added: at `Ok` the
 //! first ones of its piece, as many as it answers, at `Failed` some first ones or none.
 //!

@@ -1,5 +1,5 @@
 // Sources and sinks in memory: some fail at listed calls, and the steady ones never fail.
-ghost use Rattle.std.specs.Prelude.{◌≡◌, ◌↔◌, ◌++◌, [], length, min, Some, IsOk, IsErr, IfOk, OnOk, OnErr, IsErrOf, is_err, IsTrue, IsFalse, false};
+ghost use Rattle.std.specs.Prelude.{◌≡◌, ◌↔◌, ◌++◌, [], length, drop, min, Some, IsOk, IsErr, IfOk, OnOk, OnErr, IsErrOf, is_err, IsTrue, IsFalse, false};
 ghost use Rattle.std.specs.Io.{ReadsAtMost, WritesAtMost};
 ghost use Rattle.std.specs.Io.KnownBytes.{ReadConsumes, Keeps};
 ghost use Rattle.rk_outside.specs.Calls.{IsNextListed, no_calls, after_call, is_failed};
@@ -49,6 +49,8 @@ impl Source for SliceSource<'_> {
         ensures bytes { ReadConsumes (Some self.old.left) (Some self.new.left) result out.new }
         ensures cause { HasCause self.old.calls.faults self.new.calls.faults result }
         ensures filled { IfOk result (λ n. n ≡ min (length self.old.left) (length out.old)) }
+        ensures rest { IfOk result (λ n. drop n out.new ≡ drop n out.old) }
+        ensures untouched { OnErr result (out.new ≡ out.old) }
         ensures listed { IsErr result ↔ IsNextListed self.old.calls }
         ensures counted { self.new.calls ≡ after_call (is_err result) self.old.calls }
     {
@@ -96,6 +98,7 @@ impl Source for SteadySource<'_> {
         ensures bytes { ReadConsumes (Some self.old) (Some self.new) result out.new }
         ensures cause { HasCause 0 0 result }
         ensures filled { IfOk result (λ n. n ≡ min (length self.old) (length out.old)) }
+        ensures rest { IfOk result (λ n. drop n out.new ≡ drop n out.old) }
         ensures never_failed { IsOk result }
     {
         self.left.read(out).map_err(|_| Failed)
@@ -177,6 +180,7 @@ impl Sink for VecSink<'_> {
     fn finish(&mut self) -> Result<(), Failed>
         ensures kept { Keeps (Some self.old.written) (Some self.new.written) }
         ensures finished { OnOk result (IsTrue self.new.finished) }
+        ensures as_before { OnErr result (self.new.finished ≡ self.old.finished) }
         ensures cause { HasCause self.old.calls.faults self.new.calls.faults result }
         ensures listed { IsErr result ↔ IsNextListed self.old.calls }
         ensures counted { self.new.calls ≡ after_call (is_err result) self.old.calls }

@@ -1,7 +1,8 @@
 // What can be written piece by piece.
-ghost use Rattle.std.specs.Prelude.{◌≡◌, List, ℕ, Bool, Option, None, IsTrue, IsFalse, IfSome, OnOk, IsErrOf};
+ghost use Rattle.std.specs.Prelude.{◌≡◌, List, ℕ, Bool, Option, None, IsTrue, IsFalse, IfSome, OnOk, IsErrOf, is_err};
 ghost use Rattle.std.specs.Io.{WritesAtMost};
 ghost use Rattle.std.specs.Io.KnownBytes.{Keeps};
+ghost use Rattle.rk_outside.specs.Calls.{faults_after, is_failed};
 ghost use Rattle.rk_outside.specs.Causes.{HasCause, HasCauseOf};
 ghost use Rattle.rk_outside.specs.Sinks.{TakesSome, AddsTaken, AppendsPrefix};
 ghost use Rattle.rk_outside.specs.Adapters.{sink_writer};
@@ -77,7 +78,17 @@ impl<W: Write> Sink for WriteSink<W> {
 
     ghost fault_count = { λ s. s.faults };
 
-    fn write(&mut self, bytes: &[u8]) -> Result<usize, SinkError> {
+    fn write(&mut self, bytes: &[u8]) -> Result<usize, SinkError>
+        ensures taken { WritesAtMost result bytes.now }
+        ensures some { TakesSome result bytes.now }
+        ensures ok { AddsTaken (W.contents self.old.inner) (W.contents self.new.inner) result
+            bytes.now }
+        ensures failed { IsErrOf result SinkError.Failed →
+            AppendsPrefix (W.contents self.old.inner) (W.contents self.new.inner) bytes.now }
+        ensures cause { HasCauseOf SinkError.Failed self.old.faults self.new.faults result }
+        ensures counted { self.new.faults ≡ faults_after (is_failed result) self.old.faults }
+        ensures never_memory { IsErrOf result SinkError.Memory → ⊥ }
+    {
         match self.inner.write(bytes) {
             Ok(count) if count > 0 || bytes.is_empty() => Ok(count),
             _ => {
@@ -87,7 +98,11 @@ impl<W: Write> Sink for WriteSink<W> {
         }
     }
 
-    fn finish(&mut self) -> Result<(), Failed> {
+    fn finish(&mut self) -> Result<(), Failed>
+        ensures kept { Keeps (W.contents self.old.inner) (W.contents self.new.inner) }
+        ensures cause { HasCause self.old.faults self.new.faults result }
+        ensures counted { self.new.faults ≡ faults_after (is_err result) self.old.faults }
+    {
         match self.inner.flush() {
             Ok(()) => Ok(()),
             Err(_) => {

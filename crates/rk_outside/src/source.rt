@@ -1,7 +1,8 @@
 // What can be read piece by piece.
-ghost use Rattle.std.specs.Prelude.{◌≡◌, List, ℕ, Option};
+ghost use Rattle.std.specs.Prelude.{◌≡◌, List, ℕ, Option, is_err};
 ghost use Rattle.std.specs.Io.{ReadsAtMost};
 ghost use Rattle.std.specs.Io.KnownBytes.{ReadConsumes};
+ghost use Rattle.rk_outside.specs.Calls.{faults_after};
 ghost use Rattle.rk_outside.specs.Causes.{HasCause};
 ghost use Rattle.rk_outside.specs.Adapters.{source_reader};
 
@@ -59,7 +60,13 @@ impl<R: Read> Source for ReadSource<R> {
 
     ghost fault_count = { λ s. s.faults };
 
-    fn read(&mut self, out: &mut [u8]) -> Result<usize, Failed> {
+    fn read(&mut self, out: &mut [u8]) -> Result<usize, Failed>
+        ensures bound { ReadsAtMost result out.new }
+        ensures bytes { ReadConsumes (R.remaining self.old.inner) (R.remaining self.new.inner) result
+            out.new }
+        ensures cause { HasCause self.old.faults self.new.faults result }
+        ensures counted { self.new.faults ≡ faults_after (is_err result) self.old.faults }
+    {
         match self.inner.read(out) {
             Ok(count) => Ok(count),
             Err(_) => {

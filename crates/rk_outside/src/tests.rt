@@ -19,23 +19,37 @@ fn pour<S: Source, K: Sink>(source: &mut S, sink: &mut K) -> Result<(), SinkErro
     sink.finish().map_err(|_| SinkError::Failed)
 }
 
-// A reader and a writer that fail each time.
+// A reader and a writer that fail so many times, and then are at their end and take all.
 #[derive(Drop)]
-struct Broken;
+struct Broken {
+    times: u64,
+}
 
-impl Read for Broken {
-    fn read(&mut self, _: &mut [u8]) -> io::Result<usize> {
+impl Broken {
+    fn fail(&mut self) -> io::Result<()> {
+        if self.times == 0 {
+            return Ok(());
+        }
+        self.times -= 1;
         Err(io::Error::from(ErrorKind::Other))
     }
 }
 
+impl Read for Broken {
+    fn read(&mut self, _: &mut [u8]) -> io::Result<usize> {
+        self.fail()?;
+        Ok(0)
+    }
+}
+
 impl Write for Broken {
-    fn write(&mut self, _: &[u8]) -> io::Result<usize> {
-        Err(io::Error::from(ErrorKind::Other))
+    fn write(&mut self, bytes: &[u8]) -> io::Result<usize> {
+        self.fail()?;
+        Ok(bytes.len())
     }
 
     fn flush(&mut self) -> io::Result<()> {
-        Err(io::Error::from(ErrorKind::Other))
+        self.fail()
     }
 }
 
@@ -119,13 +133,21 @@ fn the_adapters_pass_all_on(rt: HostRuntime) -> Result<(), Fail> {
 
 #[test]
 fn the_adapters_count_faults(rt: HostRuntime) {
-    let mut source = ReadSource::new(Broken);
-    assert!(rt; source.read(&mut [0; 2]) == Err(Failed));
-    assert_eq!(rt; source.faults(), 1);
-    let mut sink = WriteSink::new(Broken);
-    assert!(rt; sink.write(b"ab") == Err(SinkError::Failed));
-    assert!(rt; sink.finish() == Err(Failed));
-    assert_eq!(rt; sink.faults(), 2);
+    let mut source = ReadSource::new(Broken { times: 1 });
+    for answer in [Err(Failed), Ok(0)] {
+        assert!(rt; source.read(&mut [0; 2]) == answer);
+        assert_eq!(rt; source.faults(), 1);
+    }
+    let mut sink = WriteSink::new(Broken { times: 1 });
+    for answer in [Err(SinkError::Failed), Ok(2)] {
+        assert!(rt; sink.write(b"ab") == answer);
+        assert_eq!(rt; sink.faults(), 1);
+    }
+    let mut sink = WriteSink::new(Broken { times: 1 });
+    for answer in [Err(Failed), Ok(())] {
+        assert!(rt; sink.finish() == answer);
+        assert_eq!(rt; sink.faults(), 1);
+    }
     let mut room = [0; 3];
     let mut sink = WriteSink::new(room.as_mut_slice());
     for (answer, faults) in [(Ok(2), 0), (Ok(1), 0), (Err(SinkError::Failed), 1)] {

@@ -8,15 +8,15 @@ use Rattle.rk_key.proofs.TotalOrders.{lt_itself, lt_back}
 use Rattle.rk_pointmerge.specs.Moves.{Steps}
 use Rattle.rk_model.specs.Sources.{Seen, are_points, ascends, entry_cmp, count_before, item_at, op_key, next_place, next_reads}
 use Rattle.rk_model.specs.declared.op.Entry.{Entry}
+use Rattle.rk_model.specs.Reads.{sum_to}
 use Rattle.rk_merge.specs.Unions.{Among}
 use Rattle.rk_merge.specs.Cuts.{place_near, near_cut, cut_past}
 use Rattle.rk_merge.proofs.Cuts.{near_item, near_is, seen_cut, seen_step, seen_past, seen_still, falls_at, cut_within, slice_rank}
 use Rattle.rk_pointmerge.specs.Merges.{comes_before}
 use Rattle.rk_pointmerge.specs.Views.{is_visible, is_kept, Passes, Falls, Lands, StartsAhead, FindsAhead, ReadsAhead}
-use Rattle.rk_merge.specs.Several.{sum_to}
 use Rattle.rk_pointmerge.proofs.Bests.{entry_total}
 use Rattle.rk_pointmerge.proofs.Gaps.{Up, of_both, upward, with_both, behind_here, rank_behind, past_near}
-use Rattle.rk_merge.proofs.Sums.{sum_to-more}
+use Rattle.rk_model.proofs.Sums.{sum_to-more}
 use Rattle.rk_pointmerge.proofs.Keys.{full_all}
 use Rattle.rk_pointmerge.proofs.Sights.{key_sym, key_trans, before_newer, newer_before, squeeze, hidden_new, hidden_del, hidden_by, shown_newest}
 use Rattle.rk_pointmerge.proofs.Turns.{none_behind}

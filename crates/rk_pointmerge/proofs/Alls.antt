@@ -1,11 +1,11 @@
 -- The sources of a merge together: the union that no call changes.
-use Rattle.std.proofs.Common.{◌≡◌, ℕ, ◌+◌, ◌<◌, ◌≤◌, length, get_or, set, take, map, List, [], ◌∷◌, None, Result, refl, ap, sym, ◌∙◌, arith}
+use Rattle.std.proofs.Common.{◌≡◌, ℕ, ◌<◌, length, get_or, set, map, List, [], ◌∷◌, None, Result, refl, ap, sym, ◌∙◌}
 use Rattle.rk_outside.specs.declared.error.SourceError.{SourceError}
 use Rattle.rk_model.specs.Sources.{Seen}
 use Rattle.rk_model.specs.Runs.{at_rest, Runs}
 use Rattle.rk_model.specs.declared.op.Entry.{Entry}
-use Rattle.rk_merge.specs.Several.{total, all_rest}
-use Rattle.rk_merge.proofs.Several.{total_step, told_rest, untold as untold_one, runs_set as runs_set_in}
+use Rattle.rk_merge.specs.Several.{all_rest}
+use Rattle.rk_merge.proofs.Several.{told_rest, untold as untold_one, runs_set as runs_set_in}
 use Rattle.rk_pointmerge.specs.Merges.{united, told_items}
 
 module _ {S : Type 0} (seen : S → Seen Entry) where
@@ -25,8 +25,3 @@ module _ {S : Type 0} (seen : S → Seen Entry) where
   pub runs_set : {T : Type 0} (ss : List S) (k : ℕ) (v d : S) (f f' r r' m : ℕ) (result : Result T SourceError) → k < length ss
       → Runs (at_rest (seen (get_or ss k d))) (at_rest (seen v)) (seen (get_or ss k d)).held f f' r r' m result → Runs (all_rest seen ss) (all_rest seen (set ss k v)) (united seen ss) f f' r r' m result
   runs_set ss k v d f f' r r' m result h runs = runs_set_in seen (united seen ss) ss k v d f f' r r' m result h (untold ss k d h) runs
-
--- sums over the first of several, of which those from one on are as they were
-pub left_total : {S : Type 0} (f : S → ℕ) (olds nows : List S) (i : ℕ) (e : S) → i < length olds → ((k : ℕ) (d : S) → i ≤ k → get_or nows k d ≡ get_or olds k d)
-    → (total f (take (i + 1) olds) ≡ total f (take i olds) + f (get_or nows i e)) × (total f (take i olds) + f (get_or nows i e) ≤ total f olds)
-left_total f olds nows i e short left = rw (left i e (omega arith)) (total_step f olds i e short)

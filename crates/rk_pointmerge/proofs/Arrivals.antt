@@ -1,5 +1,6 @@
 -- Where the sources have come to stand, as the merge's own place.
 use Rattle.std.proofs.Common.{◌≡◌, ℕ, zero, suc, ◌+◌, ◌<◌, ◌≤◌, length, get_or, All, Bool, true, false, not, List, [], Option, Some, None, is_some, IfSome, IsTrue, Ok, Err, slice_get, option_and_then, option_map, refl, ap, sym, subst, ◌∙◌, ◌⊎◌, inl, inr, arith}
+use Rattle.std.proofs.lemmas.Bool.{cases_lt}
 use mathlib.Core.Path.{fun_ext}
 use Rattle.std.specs.Option.{option_map_or}
 use Rattle.std.specs.Ordering.{is_lt}
@@ -8,19 +9,21 @@ use Rattle.rk_outside.specs.declared.error.SourceError.{SourceError}
 use Rattle.rk_model.specs.Sources.{Seen, Same, Goes, Rises, IsHere, are_points, count_before, before_cut, behind_cut, op_key, points_below, item_at}
 use Rattle.rk_model.specs.declared.op.Entry.{Entry}
 use Rattle.rk_merge.specs.Cuts.{place_near, cut_at, cut_past, is_nearer, step_place}
-use Rattle.rk_merge.proofs.Cuts.{step_rank, rank_within, behind_some, falls_at, Falls, lt_or_le, behind_none, before_suc}
+use Rattle.rk_merge.proofs.Cuts.{step_rank, rank_within, behind_some, falls_at, Falls, behind_none, before_suc}
 use Rattle.rk_merge.specs.Several.{total}
 use Rattle.rk_pointmerge.specs.Merges.{Merging, merging_seen, united, comes_before, shown, rank, reach, come, merged, merged_place, merged_count, merged_steps, place_of, next_reads_from, prev_reads_from, step_most, turn_most, turn_from, merged_turn}
 use Rattle.rk_model.specs.Runs.{IsWithin}
+use Rattle.rk_merge.specs.Directions.{MovesOn}
 use Rattle.rk_merge.specs.Several.{all_rest}
-use Rattle.rk_pointmerge.specs.Moves.{StandsNear, IsStraight, Stands, Left, IsNearest, Arrives, Placed, MovesOn}
+use Rattle.rk_pointmerge.specs.Moves.{StandsNear, IsStraight, Stands, Left, IsNearest, Arrives, Placed}
 use Rattle.rk_pointmerge.proofs.Bests.{entry_total}
 use Rattle.rk_pointmerge.proofs.Unites.{united_is, shown_some}
 use Rattle.rk_pointmerge.proofs.Walks.{reach_within}
 use Rattle.rk_pointmerge.proofs.Keys.{falls_below}
 use Rattle.rk_pointmerge.proofs.Turns.{straight}
 use Rattle.rk_pointmerge.proofs.Settles.{settle_at, settle_none}
-use Rattle.rk_pointmerge.proofs.Leaves.{total_le, total_at, slice_at, stands_shows, stands_held, placed_reach, total_lt, told_at, rest_items, merged_some}
+use Rattle.rk_merge.proofs.Totals.{total_le, total_at, total_lt}
+use Rattle.rk_pointmerge.proofs.Leaves.{slice_at, stands_shows, stands_held, placed_reach, told_at, rest_items, merged_some}
 use Rattle.rk_merge.proofs.Several.{rest_total, rest_at, rest_length, pick}
 use Rattle.rk_pointmerge.proofs.Alls.{rest_united}
 
@@ -186,7 +189,7 @@ module _ {S : Type 0} (seen : S → Seen Entry) where
   merged_untold ss at was u d h = ap (λ o. option_and_then (place_of seen (united seen ss) ss was) o) (slice_at ss at d h) ∙ ap (λ v. place_of seen v ss was (get_or ss at d)) u
 
   pub moves_told : (ahead : Bool) (es : List Entry) (r : ℕ) → MovesOn ahead (Some r) (step_place ahead es (Some r))
-  moves_told true es r = go (lt_or_le (r + 1) (length es))
+  moves_told true es r = go (cases_lt (r + 1) (length es))
     where
       go : (r + 1 < length es) ⊎ (length es ≤ r + 1) → Rises (Some r) (behind_cut (r + 1) (length es))
       go (inl h) = rw (behind_some (r + 1) (length es) h) (omega arith)

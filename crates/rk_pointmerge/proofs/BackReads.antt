@@ -5,10 +5,10 @@ use Rattle.std.specs.Ordering.{is_lt}
 use Rattle.rk_model.specs.Sources.{Seen, are_points, ascends, entry_cmp, count_before, item_at, op_key, before_cut, behind_cut, prev_place, prev_reads}
 use Rattle.rk_model.specs.declared.op.Entry.{Entry}
 use Rattle.rk_model.specs.Runs.{at_rest}
+use Rattle.rk_model.specs.Reads.{sum_to, reads_to}
 use Rattle.rk_merge.proofs.Cuts.{near_item, slice_rank, tied_same}
-use Rattle.rk_merge.specs.Several.{sum_to}
 use Rattle.rk_pointmerge.specs.Merges.{rank, turning_reads}
-use Rattle.rk_pointmerge.specs.Views.{Lands, FindsNewest, IsNewest, ReadsBack, come_reads, gaps_left, reads_to, return_reads, return_to, step_over}
+use Rattle.rk_pointmerge.specs.Views.{Lands, FindsNewest, IsNewest, ReadsBack, come_reads, gaps_left, return_reads, return_to, step_over}
 use Rattle.rk_pointmerge.proofs.Bests.{entry_total}
 use Rattle.rk_pointmerge.proofs.Gaps.{Up, of_both, upward, with_both, before_own, before_most, behind_here, rank_before, rank_near}
 use Rattle.rk_pointmerge.proofs.BackWalks.{IsBack, IsFind, ToldBack, ToldFind, find_come}

@@ -11,15 +11,15 @@ use Rattle.rk_model.specs.declared.op.Entry.{Entry}
 use Rattle.rk_merge.specs.Unions.{Among}
 use Rattle.rk_merge.specs.Cuts.{place_near, near_cut, cut_past, first_behind}
 use Rattle.rk_merge.proofs.Cuts.{near_item, near_is, near_best, seen_cut, seen_step, seen_past, seen_still, falls_at, own_near, cross, before_suc, tied_same}
-use Rattle.rk_merge.specs.Several.{sum_to}
 use Rattle.rk_pointmerge.specs.Merges.{comes_before, turning_reads}
 use Rattle.rk_model.specs.Runs.{at_rest, IsWithin}
 use Rattle.rk_pointmerge.specs.Moves.{Steps, Sought, GoesOn}
 use Rattle.rk_model.proofs.Runs.{Ran, rest_steps}
+use Rattle.rk_model.specs.Reads.{sum_to}
 use Rattle.rk_pointmerge.specs.Views.{is_visible, is_put, is_kept, Falls, Lands, FindsBack, FindsNewest, IsNewest, ComesBack, IsOld, come_reads, gaps_left, back_most}
 use Rattle.rk_pointmerge.proofs.Bests.{entry_total}
 use Rattle.rk_pointmerge.proofs.Gaps.{Up, of_both, upward, with_both}
-use Rattle.rk_merge.proofs.Sums.{sum_to-more, sum_to-last, sum_to-at}
+use Rattle.rk_model.proofs.Sums.{sum_to-more, sum_to-last, sum_to-at}
 use Rattle.rk_pointmerge.proofs.Sights.{key_sym, key_trans, before_newer, newer_before, squeeze, hidden_new, hidden_del, hidden_by, shown_newest}
 
 -- reads on the way back

@@ -7,7 +7,7 @@ use Rattle.rk_model.specs.declared.op.Op.TheVariants.{Put, Del}
 use Rattle.rk_model.specs.declared.op.Entry.{Entry}
 use Rattle.rk_model.specs.Sources.{Seen, in_memory, sound_points}
 use Rattle.rk_pointmerge.specs.Merges.{united, merged, merged_turn, end_reads}
-use Rattle.rk_pointmerge.specs.Views.{visible}
+use Rattle.rk_pointmerge.specs.Views.{visible, viewed, hidden_reads}
 
 abbrev entry : ℕ → Op → Entry
 entry n op = record { op = op; seq = n }
@@ -88,3 +88,22 @@ the_put_before_the_delete = refl
 
 nothing_after_the_delete : visible 2 (delete_a ∷ put_a ∷ []) ≡ []
 nothing_after_the_delete = refl
+
+-- At number 2 c alone is visible. The gap before it has the three entries that are hidden: to pass them and come
+-- to c crosses four gaps. Behind it is the gap to the end, and back from there c is passed and come back to by a turn.
+what_the_gap_before_c_reads : hidden_reads (dear all) 2 all 0 ≡ 4
+what_the_gap_before_c_reads = refl
+
+what_the_gap_behind_c_reads : hidden_reads (dear all) 2 all 1 ≡ 5
+what_the_gap_behind_c_reads = refl
+
+-- a seek is one of the merge and the gap to which it leads, and a step back to c turns the merge there too
+what_a_seek_of_c_reads : (viewed (dear all) 2 None).seek_reads (codes "c") ≡ 14
+what_a_seek_of_c_reads = refl
+
+what_steps_read : ((viewed (dear all) 2 None).step_reads 0 ≡ 6) × ((viewed (dear all) 2 None).step_reads 1 ≡ 5)
+what_steps_read = (refl, refl)
+
+-- Back to the first of two visible entries it runs off the start, and seeks it again. Back to the second it turns.
+what_the_way_back_reads : (hidden_reads (dear (put_b ∷ put_c ∷ [])) 3 (put_b ∷ put_c ∷ []) 1 ≡ 12) × (hidden_reads (dear (put_b ∷ put_c ∷ [])) 3 (put_b ∷ put_c ∷ []) 2 ≡ 5)
+what_the_way_back_reads = (refl, refl)

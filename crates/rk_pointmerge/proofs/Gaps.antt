@@ -1,18 +1,18 @@
 -- What the gaps between two places read, and where entries stand beside a cut.
 use Rattle.std.proofs.Common.{◌≡◌, ℕ, zero, suc, ◌+◌, ◌<◌, ◌≤◌, length, Bool, true, false, not, cond, List, [], ◌∷◌, Option, Some, None, IfSome, IsTrue, refl, ap, sym, subst, ◌∙◌, ◌⊎◌, inl, inr, arith}
-use Rattle.std.proofs.lemmas.Bool.{not-true}
+use Rattle.std.proofs.lemmas.Bool.{not-true, cases_lt}
 use Rattle.std.specs.Ordering.{is_lt}
 use Rattle.rk_model.specs.Sources.{Seen, are_points, ascends, entry_cmp, count_before, before_cut, behind_cut, item_at}
 use Rattle.rk_model.specs.declared.op.Entry.{Entry}
+use Rattle.rk_model.specs.Reads.{sum_to, reads_to}
 use Rattle.rk_merge.specs.Unions.{Among}
 use Rattle.rk_merge.specs.Cuts.{near_cut, cut_past}
-use Rattle.rk_merge.specs.Several.{sum_to}
 use Rattle.rk_merge.proofs.Lists.{and_parts}
-use Rattle.rk_merge.proofs.Cuts.{before_suc, behind_none, behind_some, lt_or_le, rank_past, near_is, seen_cut, cut_agree}
+use Rattle.rk_merge.proofs.Cuts.{before_suc, behind_none, behind_some, rank_past, near_is, seen_cut, cut_agree}
 use Rattle.rk_pointmerge.specs.Merges.{comes_before, rank}
-use Rattle.rk_pointmerge.specs.Views.{Falls, reads_to}
+use Rattle.rk_pointmerge.specs.Views.{Falls}
 use Rattle.rk_pointmerge.proofs.Bests.{entry_total}
-use Rattle.rk_merge.proofs.Sums.{sum_to-more}
+use Rattle.rk_model.proofs.Sums.{sum_to-more}
 
 -- where two sources hold the same, what holds of the list of one and of the other
 pub of_both : (h h' : Option (List Entry)) (P Q R : List Entry → Type 0) → h' ≡ h → IfSome h P → IfSome h' Q → ((es : List Entry) → P es → Q es → R es) → IfSome h R
@@ -43,7 +43,7 @@ before_most s k (suc c) h = rw (before_suc c) (sum_to-more s.step_reads k c (ome
 
 -- a place behind a cut at which there is an item
 pub behind_here : (es : List Entry) (c : ℕ) (e : Entry) → item_at es (behind_cut c (length es)) ≡ Some e → behind_cut c (length es) ≡ Some c
-behind_here es c e here = go (lt_or_le c (length es))
+behind_here es c e here = go (cases_lt c (length es))
   where
     go : (c < length es) ⊎ (length es ≤ c) → behind_cut c (length es) ≡ Some c
     go (inl h) = behind_some c (length es) h

@@ -10,15 +10,17 @@ use Rattle.rk_merge.specs.Cuts.{place_near, cut_at, cut_past, step_place}
 use Rattle.rk_merge.proofs.Cuts.{near_is, near_rank, step_rank, rank_past, rank_item, cut_agree, before_suc}
 use Rattle.rk_merge.proofs.Unions.{union_from, union_apart}
 use Rattle.rk_merge.specs.Several.{total}
-use Rattle.rk_pointmerge.specs.Merges.{united, told_items, comes_before, shown, rank, reach, come, merged, merged_place, merged_steps, merged_turn, turn_to, turning_reads, turn_from, turn_most, place_of, next_reads_from, prev_reads_from, has_entry, step_most, turn_at_last}
+use Rattle.rk_pointmerge.specs.Merges.{united, told_items, comes_before, shown, rank, reach, come, merged, merged_place, merged_steps, merged_turn, turning_reads, turn_from, turn_most, place_of, next_reads_from, prev_reads_from, has_entry, step_most, turn_at_last}
 use Rattle.rk_model.specs.Runs.{at_rest, IsWithin}
+use Rattle.rk_merge.specs.Directions.{turn_to, go_reads}
 use Rattle.rk_merge.specs.Several.{all_rest}
-use Rattle.rk_pointmerge.specs.Moves.{MeetsKey, StandsNear, IsStraight, Stands, Left, Steps, Turned, go_reads}
+use Rattle.rk_pointmerge.specs.Moves.{MeetsKey, StandsNear, IsStraight, Stands, Left, Steps, Turned}
 use Rattle.rk_pointmerge.proofs.Bests.{entry_total}
 use Rattle.rk_pointmerge.proofs.Unites.{IsUnited, united_is, source_ascends, shown_near}
 use Rattle.rk_pointmerge.proofs.Keys.{meets_key}
 use Rattle.rk_pointmerge.proofs.Turns.{straight, next_most, prev_most, turns_most}
 use Rattle.rk_merge.proofs.Several.{rest_at, rest_length, any_default, pick}
+use Rattle.rk_merge.proofs.Totals.{total_le, total_at, total_set}
 
 pub same_way : (a b : Bool) → beq a b ≡ true → a ≡ b
 same_way true true e = refl
@@ -31,36 +33,6 @@ other_way true true e = cc
 other_way true false e = refl
 other_way false true e = refl
 other_way false false e = cc
-
--- sums over sources
-pub total_le : {S : Type 0} (f g : S → ℕ) (xs ys : List S) → length xs ≡ length ys → ((k : ℕ) (d : S) → k < length xs → f (get_or xs k d) ≤ g (get_or ys k d)) → total f xs ≤ total g ys
-total_le f g [] [] e h = omega arith
-total_le f g [] (y ∷ ys) e h = omega arith
-total_le f g (x ∷ xs) [] e h = absurd (omega arith)
-total_le f g (x ∷ xs) (y ∷ ys) e h =
-    let one = h 0 x (omega arith) in
-    let more = total_le f g xs ys (omega arith) (λ k d l. h (suc k) d (omega arith)) in
-    omega arith
-
-pub total_at : {S : Type 0} (f : S → ℕ) (ss : List S) (k : ℕ) (d : S) → k < length ss → f (get_or ss k d) ≤ total f ss
-total_at f [] k d h = absurd (omega arith)
-total_at f (s ∷ ss) zero d h = omega arith
-total_at f (s ∷ ss) (suc k) d h = let ih = total_at f ss k d (omega arith) in omega arith
-
-pub total_set : {S : Type 0} (f : S → ℕ) (ss : List S) (k : ℕ) (v d : S) → k < length ss → total f (set ss k v) + f (get_or ss k d) ≡ total f ss + f v
-total_set f [] k v d h = absurd (omega arith)
-total_set f (s ∷ ss) zero v d h = omega arith
-total_set f (s ∷ ss) (suc k) v d h = let ih = total_set f ss k v d (omega arith) in omega arith
-
-pub total_lt : {S : Type 0} (f g : S → ℕ) (ss : List S) (k : ℕ) (d : S) → k < length ss → f (get_or ss k d) < g (get_or ss k d) → ((j : ℕ) (c : S) → j < length ss → f (get_or ss j c) ≤ g (get_or ss j c)) → total f ss < total g ss
-total_lt f g [] k d h lt all = absurd (omega arith)
-total_lt f g (s ∷ ss) zero d h lt all =
-    let more = total_le f g ss ss refl (λ j c l. all (suc j) c (omega arith)) in
-    omega arith
-total_lt f g (s ∷ ss) (suc k) d h lt all =
-    let one = all 0 d (omega arith) in
-    let ih = total_lt f g ss k d (omega arith) lt (λ j c l. all (suc j) c (omega arith)) in
-    omega arith
 
 pub slice_at : {S : Type 0} (ss : List S) (k : ℕ) (d : S) → k < length ss → slice_get ss k ≡ Some (get_or ss k d)
 slice_at [] k d h = absurd (omega arith)

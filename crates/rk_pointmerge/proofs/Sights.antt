@@ -1,5 +1,5 @@
 -- What hides an entry, and what doesn't.
-use Rattle.std.proofs.Common.{◌≡◌, ℕ, ◌<◌, ◌≤◌, length, Bool, true, false, not, ◌&&◌, ◌||◌, List, [], ◌∷◌, Some, refl, ap, sym, ◌∙◌, inl, inr, cond, arith, ◌==◌, Less, Equal, Greater, ltb-true, lt-ltb, le-leb, leb-true, nat_lt, nat_le}
+use Rattle.std.proofs.Common.{◌≡◌, ℕ, ◌<◌, ◌≤◌, length, Bool, true, false, not, ◌&&◌, List, [], ◌∷◌, Some, refl, ap, sym, ◌∙◌, inl, inr, cond, arith, ◌==◌, Less, Equal, Greater, ltb-true, lt-ltb, le-leb, leb-true, nat_lt, nat_le}
 use Rattle.std.proofs.lemmas.Bool.{and_left, and_right}
 use Rattle.std.specs.List.{list_any}
 use Rattle.std.specs.Ordering.{is_lt, is_eq, ordering_reverse, nat_cmp}
@@ -9,6 +9,7 @@ use Rattle.rk_key.proofs.Equality.{same_key_from_eq}
 use Rattle.rk_key.proofs.TotalOrders.{lt_back, eq_is, eq_from}
 use Rattle.rk_model.specs.Sources.{op_key}
 use Rattle.rk_model.specs.declared.op.Entry.{Entry}
+use Rattle.rk_model.proofs.Members.{any_from}
 use Rattle.rk_merge.specs.Unions.{Among}
 use Rattle.rk_merge.proofs.Lists.{and_parts, and_true}
 use Rattle.rk_pointmerge.specs.Merges.{comes_before}
@@ -52,15 +53,6 @@ squeeze f e g p q same =
     key_cmp-total.antisymm (op_key e.op) (op_key g.op) ∙ ap ordering_reverse turned ∙ sym (key_cmp-total.antisymm (op_key e.op) (op_key f.op)) in
     ap is_eq (eq_from key_cmp-total (op_key e.op) (op_key g.op) (ap is_lt back ∙ low) high)
 
-any_among : (t : Entry → Bool) (es : List Entry) (e : Entry) → Among e es → t e ≡ true → list_any t es ≡ true
-any_among t [] e m h = absurd m
-any_among t (x ∷ xs) e (inl q) h = rw (ap t (sym q) ∙ h) refl
-any_among t (x ∷ xs) e (inr m) h = go (t x) (any_among t xs e m h)
-  where
-    go : (b : Bool) → list_any t xs ≡ true → (b || list_any t xs) ≡ true
-    go true r = refl
-    go false r = r
-
 any_none : (t : Entry → Bool) (es : List Entry) → ((e : Entry) → Among e es → t e ≡ false) → list_any t es ≡ false
 any_none t [] h = refl
 any_none t (x ∷ xs) h = rw (h x (inl refl), any_none t xs (λ e m. h e (inr m))) refl
@@ -84,7 +76,7 @@ module _ (n : ℕ) (es : List Entry) where
   pub hidden_by : (f e : Entry) → Among f es → is_eq (key_cmp (op_key f.op) (op_key e.op)) ≡ true → f.seq ≤ n → e.seq < f.seq → is_visible n es e ≡ false
   hidden_by f e m same old newer =
       let one : hides n f e ≡ true = and_true (is_eq (key_cmp (op_key f.op) (op_key e.op)) && nat_le f.seq n) (nat_lt e.seq f.seq) (and_true (is_eq (key_cmp (op_key f.op) (op_key e.op))) (nat_le f.seq n) same (le-leb f.seq n old)) (lt-ltb e.seq f.seq newer) in
-      and_right (is_put e.op && nat_le e.seq n) _ (ap not (any_among (λ f. hides n f e) es f m one))
+      and_right (is_put e.op && nat_le e.seq n) _ (ap not (any_from (λ f. hides n f e) es f m one))
 
   pub shown_newest : (e : Entry) → is_put e.op ≡ true → e.seq ≤ n → ((f : Entry) → Among f es → is_eq (key_cmp (op_key f.op) (op_key e.op)) ≡ true → f.seq ≤ n → e.seq < f.seq → ⊥) → is_visible n es e ≡ true
   shown_newest e put old newest =

@@ -1,18 +1,20 @@
 -- A source that turns, and one that is led to its last entry.
 use Rattle.std.proofs.Common.{◌≡◌, ℕ, zero, suc, ◌+◌, ◌-◌, ◌<◌, ◌≤◌, length, Bool, true, false, not, List, [], Option, Some, None, is_some, IfSome, OnOk, Result, Ok, Err, refl, ap, sym, subst, ◌∙◌, ◌⊎◌, inl, inr, arith, unwrap_or, if◌then◌else◌, eq-eqb}
+use Rattle.std.proofs.lemmas.Bool.{cases_lt}
 use Rattle.std.specs.Option.{option_map_or}
 use Rattle.std.specs.Ordering.{is_lt}
 use Rattle.rk_key.specs.Keys.{key_cmp}
 use Rattle.rk_model.specs.Sources.{Seen, ReadsAreBounded, op_key, behind_cut, before_cut, next_reads, prev_reads, points_below}
 use Rattle.rk_model.specs.declared.op.Entry.{Entry}
 use Rattle.rk_merge.specs.Cuts.{place_near, step_place}
-use Rattle.rk_merge.specs.Several.{sum_to}
-use Rattle.rk_merge.proofs.Cuts.{behind_some, behind_none, before_suc, cut_within, cross, lt_or_le}
-use Rattle.rk_pointmerge.specs.Merges.{reach, step_most, turn_most, told_items, turn_at_last, turn_to, turning_reads, end_reads}
+use Rattle.rk_merge.proofs.Cuts.{behind_some, behind_none, before_suc, cut_within, cross}
+use Rattle.rk_pointmerge.specs.Merges.{reach, step_most, turn_most, told_items, turn_at_last, turning_reads, end_reads}
 use Rattle.rk_model.specs.Runs.{at_rest, IsWithin}
 use Rattle.rk_model.proofs.Runs.{rest_steps, rest_count}
-use Rattle.rk_pointmerge.specs.Moves.{IsStraight, Steps, Sought, ToLast, Turned, GoesOn, GoesBack, MeetsKey, points_upto, go_reads, reads_left}
-use Rattle.rk_merge.proofs.Sums.{sum_to-at, sum_to-more}
+use Rattle.rk_model.specs.Reads.{sum_to}
+use Rattle.rk_merge.specs.Directions.{turn_to, go_reads}
+use Rattle.rk_pointmerge.specs.Moves.{IsStraight, Steps, Sought, ToLast, Turned, GoesOn, GoesBack, MeetsKey, points_upto, reads_left}
+use Rattle.rk_model.proofs.Sums.{sum_to-at, sum_to-more}
 
 pub on_ok_and : {T E P Q W : Type 0} (r : Result T E) → OnOk r P → OnOk r Q → (P → Q → W) → OnOk r W
 on_ok_and (Ok x) p q f = f p q
@@ -90,7 +92,7 @@ left_from key b u s before same sought = rw (← rest_steps u b before, ← rest
         → sum_to u.step_reads u.count - sum_to u.step_reads (option_map_or (λ i. i) p u.count) ≤ sum_to u.step_reads u.count - sum_to u.step_reads (points_below key (unwrap_or h []))
     go h None told = omega arith
     go None (Some i) told = let le = sum_to-more u.step_reads 0 i (omega arith) in omega arith
-    go (Some es) (Some i) told = here es i told (lt_or_le (points_below key es) (length es))
+    go (Some es) (Some i) told = here es i told (cases_lt (points_below key es) (length es))
       where
         here : (es : List Entry) (i : ℕ) → Some i ≡ behind_cut (points_below key es) (length es) → (points_below key es < length es) ⊎ (length es ≤ points_below key es)
             → sum_to u.step_reads u.count - sum_to u.step_reads i ≤ sum_to u.step_reads u.count - sum_to u.step_reads (points_below key es)
@@ -98,14 +100,14 @@ left_from key b u s before same sought = rw (← rest_steps u b before, ← rest
         here es i told (inr h) = cc (behind_none (points_below key es) (length es) h)
 
 pub none_behind : (n len : ℕ) → is_some (behind_cut n len) ≡ false → len ≤ n
-none_behind n len none = go (lt_or_le n len)
+none_behind n len none = go (cases_lt n len)
   where
     go : (n < len) ⊎ (len ≤ n) → len ≤ n
     go (inl h) = let e = ap is_some (behind_some n len h) in cc
     go (inr h) = h
 
 pub some_behind : (n len : ℕ) → is_some (behind_cut n len) ≡ true → n < len
-some_behind n len some = go (lt_or_le n len)
+some_behind n len some = go (cases_lt n len)
   where
     go : (n < len) ⊎ (len ≤ n) → n < len
     go (inl h) = h

@@ -1,5 +1,6 @@
 -- What it means that the union of the sources is told.
 use Rattle.std.proofs.Common.{◌≡◌, ℕ, zero, suc, ◌<◌, length, map, All, Bool, true, false, List, [], ◌∷◌, Option, Some, None, is_some, IfSome, IsTrue, unwrap_or, if◌then◌else◌, refl, ap, sym, ◌∙◌, arith, slice_get, ◌≤◌, ◌⊎◌, inl, inr}
+use Rattle.std.proofs.lemmas.Bool.{cases_lt}
 use Rattle.std.specs.List.{list_all}
 use Rattle.std.specs.Ordering.{is_lt}
 use Rattle.rk_model.specs.Sources.{Seen, ascends, are_points, entry_cmp, item_at, count_before}
@@ -7,7 +8,7 @@ use Rattle.rk_model.specs.declared.op.Entry.{Entry}
 use Rattle.rk_merge.specs.Unions.{union}
 use Rattle.rk_merge.specs.Cuts.{place_near, near_cut}
 use Rattle.rk_merge.proofs.Lists.{and_parts}
-use Rattle.rk_merge.proofs.Cuts.{near_item, cut_within, behind_some, behind_none, before_suc, lt_or_le}
+use Rattle.rk_merge.proofs.Cuts.{near_item, cut_within, behind_some, behind_none, before_suc}
 use Rattle.rk_pointmerge.specs.Merges.{united, told_items, comes_before, shown}
 use Rattle.rk_pointmerge.specs.Moves.{StandsNear}
 
@@ -51,7 +52,7 @@ slice_some (e ∷ es) zero h = refl
 slice_some (e ∷ es) (suc k) h = slice_some es k (omega arith)
 
 place_some : (ahead : Bool) (n : ℕ) (es : List Entry) → n ≤ length es → is_some (place_near ahead n (length es)) ≡ true → is_some (item_at es (place_near ahead n (length es))) ≡ true
-place_some true n es le some = go (lt_or_le n (length es))
+place_some true n es le some = go (cases_lt n (length es))
   where
     go : (n < length es) ⊎ (length es ≤ n) → is_some (item_at es (place_near true n (length es))) ≡ true
     go (inl h) = rw (behind_some n (length es) h) (slice_some es n h)

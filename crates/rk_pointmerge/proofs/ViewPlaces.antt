@@ -15,7 +15,8 @@ use Rattle.rk_merge.proofs.Cuts.{nearest_cut, near_rank, step_rank, rank_within,
 use Rattle.rk_pointmerge.specs.Merges.{comes_before, rank}
 use Rattle.rk_pointmerge.proofs.Turns.{next_most, prev_most}
 use Rattle.rk_model.specs.Runs.{at_rest, IsWithin}
-use Rattle.rk_pointmerge.specs.Moves.{go_reads, Steps, Sought, MovesOn}
+use Rattle.rk_merge.specs.Directions.{go_reads, MovesOn}
+use Rattle.rk_pointmerge.specs.Moves.{Steps, Sought}
 use Rattle.rk_pointmerge.specs.Views.{is_visible, visible, viewed, viewed_place, viewed_count, view_most, back_most, marked, StandsAhead, Views, Looks, Falls, Lands, StartsAhead, Finds}
 use Rattle.rk_pointmerge.proofs.Bests.{entry_total}
 use Rattle.rk_pointmerge.proofs.Gaps.{Up, of_both, upward, with_both}

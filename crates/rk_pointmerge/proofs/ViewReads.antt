@@ -8,18 +8,19 @@ use Rattle.rk_outside.specs.declared.error.SourceError.{SourceError}
 use Rattle.rk_model.specs.Sources.{Seen, ReadsAreBounded, are_points, ascends, entry_cmp, count_before, before_cut, item_at, op_key, points_below, next_reads, prev_reads}
 use Rattle.rk_model.specs.declared.op.Entry.{Entry}
 use Rattle.rk_model.specs.Runs.{at_rest, Runs}
+use Rattle.rk_model.specs.Reads.{sum_to, reads_to}
+use Rattle.rk_merge.specs.Directions.{go_reads}
 use Rattle.rk_merge.specs.Unions.{Among}
 use Rattle.rk_merge.specs.Cuts.{place_near, near_cut, cut_past, is_beyond, is_nearer, step_place}
-use Rattle.rk_merge.specs.Several.{sum_to}
 use Rattle.rk_merge.proofs.Lists.{among_filter, filter_among}
 use Rattle.rk_merge.proofs.Cuts.{before_suc, behind_some, near_item, near_is, near_best, rank_item, rank_past, falls_at, cut_within}
 use Rattle.rk_pointmerge.specs.Merges.{comes_before, rank}
-use Rattle.rk_pointmerge.specs.Moves.{go_reads, Sought, Steps}
-use Rattle.rk_pointmerge.specs.Views.{is_visible, visible, beside, placed_in, reads_to, hidden_reads, return_reads, viewed, viewed_place, view_most, Falls, Lands, ReadsWay, StartsAhead, Views}
+use Rattle.rk_pointmerge.specs.Moves.{Sought, Steps}
+use Rattle.rk_pointmerge.specs.Views.{is_visible, visible, beside, placed_in, hidden_reads, return_reads, viewed, viewed_place, view_most, Falls, Lands, ReadsWay, StartsAhead, Views}
 use Rattle.rk_pointmerge.proofs.Bests.{entry_total}
 use Rattle.rk_pointmerge.proofs.Gaps.{Up, upward, before_most, before_own, rank_before, rank_behind}
 use Rattle.rk_pointmerge.proofs.Keys.{falls_below}
-use Rattle.rk_merge.proofs.Sums.{sum_to-more}
+use Rattle.rk_model.proofs.Sums.{sum_to-more}
 use Rattle.rk_pointmerge.proofs.ViewPlaces.{visible_up, seek_starts, next_starts, view_at, step_under, rank_visible}
 
 told_of : {A : Type 0} (h : Option A) (x : A) (P : A → Type 0) → h ≡ Some x → IfSome h P → P x

@@ -1,13 +1,14 @@
 -- A source that walks on to the end of its list.
 use Rattle.std.proofs.Common.{◌≡◌, ℕ, ◌+◌, ◌<◌, ◌≤◌, length, true, false, ◌-◌, List, Option, Some, None, is_some, IfSome, option_copied, Bor, refl, ap, sym, ◌∙◌, ◌⊎◌, inl, inr, arith}
+use Rattle.std.proofs.lemmas.Bool.{cases_lt}
 use Rattle.rk_model.specs.Sources.{Seen, behind_cut, next_place, next_reads}
 use Rattle.rk_model.specs.declared.op.Entry.{Entry}
-use Rattle.rk_merge.proofs.Cuts.{behind_some, behind_none, lt_or_le}
-use Rattle.rk_merge.specs.Several.{sum_to}
+use Rattle.rk_merge.proofs.Cuts.{behind_some, behind_none}
 use Rattle.rk_pointmerge.specs.Merges.{reach}
 use Rattle.rk_model.specs.Runs.{IsWithin}
+use Rattle.rk_model.specs.Reads.{sum_to}
 use Rattle.rk_pointmerge.specs.Moves.{Steps, GoesOn, reads_left}
-use Rattle.rk_merge.proofs.Sums.{sum_to-step, sum_to-more}
+use Rattle.rk_model.proofs.Sums.{sum_to-step, sum_to-more}
 
 -- so many steps from a place of the list
 pub record Walked (before now : Seen Entry) (steps : ℕ) : Type 0 where
@@ -25,7 +26,7 @@ walk_start b straight within = record { straight = straight; within = within; fu
     go (Some es) (Some i) = λ h. let k : i + 0 < length es = omega arith in let e : i + 0 ≡ i = omega arith in (ap (λ n. Some n) (sym e) ∙ sym (behind_some (i + 0) (length es) k), omega arith)
 
 walk_place : (es : List Entry) (n : ℕ) → is_some (behind_cut n (length es)) ≡ true → (next_place es (behind_cut n (length es)) ≡ behind_cut (n + 1) (length es)) × (n + 1 ≤ length es)
-walk_place es n some = go (lt_or_le n (length es))
+walk_place es n some = go (cases_lt n (length es))
   where
     go : (n < length es) ⊎ (length es ≤ n) → (next_place es (behind_cut n (length es)) ≡ behind_cut (n + 1) (length es)) × (n + 1 ≤ length es)
     go (inl h) = (rw (behind_some n (length es) h) refl, omega arith)
@@ -79,7 +80,7 @@ walked_out b s k walked none = go b.held b.place walked.told
     go : (h : Option (List Entry)) (p : Option ℕ) → IfSome h (λ es. IfSome p (λ i. i < length es → (s.place ≡ behind_cut (i + (k + 1)) (length es)) × (i + (k + 1) ≤ length es))) → IfSome h (λ es. IfSome p (λ i. i < length es → i + k + 1 ≡ length es))
     go None p told = tt
     go (Some es) None told = tt
-    go (Some es) (Some i) told = λ h. end es i (told h) (lt_or_le (i + (k + 1)) (length es))
+    go (Some es) (Some i) told = λ h. end es i (told h) (cases_lt (i + (k + 1)) (length es))
       where
         end : (es : List Entry) (i : ℕ) → (s.place ≡ behind_cut (i + (k + 1)) (length es)) × (i + (k + 1) ≤ length es) → (i + (k + 1) < length es) ⊎ (length es ≤ i + (k + 1)) → i + k + 1 ≡ length es
         end es i was (inl h) = let e = ap is_some (behind_some (i + (k + 1)) (length es) h) in let f = ap is_some was.0 in cc
@@ -136,7 +137,7 @@ stays_out b s k n walked none le = go b.held b.place walked.told
     go : (h : Option (List Entry)) (p : Option ℕ) → IfSome h (λ es. IfSome p (λ i. i < length es → (s.place ≡ behind_cut (i + k) (length es)) × (i + k ≤ length es))) → IfSome h (λ es. IfSome p (λ i. i < length es → s.place ≡ behind_cut (i + n) (length es)))
     go None p told = tt
     go (Some es) None told = tt
-    go (Some es) (Some i) told = λ h. end es i (told h) (lt_or_le (i + k) (length es))
+    go (Some es) (Some i) told = λ h. end es i (told h) (cases_lt (i + k) (length es))
 
 pub walked_to : (b s : Seen Entry) (k : ℕ) → Walked b s k → IfSome b.held (λ es. IfSome b.place (λ i. i < length es → s.place ≡ behind_cut (i + k) (length es)))
 walked_to b s k walked = go b.held b.place walked.told

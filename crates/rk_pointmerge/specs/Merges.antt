@@ -6,9 +6,10 @@ use Rattle.std.specs.Option.{option_map_or}
 use Rattle.std.specs.Ordering.{is_lt}
 use Rattle.rk_model.specs.Sources.{Seen, count_before, before_cut, item_at, entry_cmp, op_key, points_below, sound_points}
 use Rattle.rk_model.specs.declared.op.Entry.{Entry}
+use Rattle.rk_model.specs.Reads.{sum_to}
 use Rattle.rk_merge.specs.Unions.{union}
 use Rattle.rk_merge.specs.Cuts.{cut_past, place_near}
-use Rattle.rk_merge.specs.Several.{sum_to, total}
+use Rattle.rk_merge.specs.Several.{total}
 
 abbrev pub comes_before : Entry → Entry → Bool
 comes_before e f = is_lt (entry_cmp e f)
@@ -34,9 +35,6 @@ turn_most s = 2 * s.seek_most + 2 * sum_to s.step_reads s.count + step_most s
 -- how far a source has come, where it stands ahead, and where it stands back
 abbrev pub reach : Bool → Seen Entry → ℕ
 reach ahead s = if ahead then option_map_or (λ i. i) s.place s.count else option_map_or (λ i. i + 1) s.place 0
-
-abbrev pub turn_to : Bool → Seen Entry → ℕ
-turn_to ahead s = if ahead then s.turn_to_next else s.turn_to_prev
 
 -- what a step from an entry may read, on and back, at the source that has it
 abbrev pub has_entry : Entry → Seen Entry → Bool

@@ -3,12 +3,14 @@ use Rattle.std.specs.Prelude.{◌≡◌, ℕ, ◌-◌, ◌<◌, ◌≤◌, Bool,
 use Rattle.std.specs.Option.{option_map_or}
 use Rattle.std.specs.Ordering.{is_lt}
 use Rattle.rk_key.specs.Keys.{key_cmp}
-use Rattle.rk_model.specs.Sources.{Seen, count_before, op_key, points_below, before_cut, next_reads, prev_reads, Rises}
+use Rattle.rk_model.specs.Sources.{Seen, count_before, op_key, points_below, before_cut}
 use Rattle.rk_model.specs.declared.op.Entry.{Entry}
 use Rattle.rk_merge.specs.Cuts.{place_near, cut_at, cut_past, is_nearer, step_place}
 use Rattle.rk_model.specs.Runs.{IsWithin}
-use Rattle.rk_merge.specs.Several.{sum_to, total}
-use Rattle.rk_pointmerge.specs.Merges.{comes_before, told_items, shown, united, merged_place, come, reach, turn_to, turn_at_last, turning_reads}
+use Rattle.rk_model.specs.Reads.{sum_to}
+use Rattle.rk_merge.specs.Directions.{turn_to}
+use Rattle.rk_merge.specs.Several.{total}
+use Rattle.rk_pointmerge.specs.Merges.{comes_before, told_items, shown, united, merged_place, come, reach, turn_at_last, turning_reads}
 
 -- the source stands next to the cut that a test makes, ahead of it or back
 abbrev pub StandsNear : Bool → (Entry → Bool) → Seen Entry → Type 0
@@ -74,10 +76,6 @@ abbrev pub Placed : Bool → List ℕ → Bool → Seen Entry → Seen Entry →
 Placed false key ahead before now = Sought key ahead before now
 Placed true key ahead before now = Turned key ahead before now
 
--- what a step of a source may read, ahead or back
-abbrev pub go_reads : Bool → Seen Entry → ℕ
-go_reads ahead s = if ahead then next_reads s else prev_reads s
-
 -- what steps ahead may still read, all together
 abbrev pub reads_left : Seen Entry → ℕ
 reads_left s = sum_to s.step_reads s.count - sum_to s.step_reads (reach true s)
@@ -109,8 +107,3 @@ pub record Left {S : Type 0} (seen : S → Seen Entry) (olds news : List S) (at 
 pub record Arrives {S : Type 0} (seen : S → Seen Entry) (ss : List S) (at : Option ℕ) (ahead : Bool) (to : List Entry → Option ℕ) : Type 0 where
   pub stands : IfSome at (λ i. Stands seen ss i ahead)
   pub told : IfSome (united seen ss) (λ es. merged_place seen ss at ahead ≡ to es)
-
--- the place has gone on, or back, where there is one
-abbrev pub MovesOn : Bool → Option ℕ → Option ℕ → Type 0
-MovesOn true before now = Rises before now
-MovesOn false before now = Rises now before

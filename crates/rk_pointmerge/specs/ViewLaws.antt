@@ -11,11 +11,11 @@ use Rattle.rk_key.specs.Laws.{key_cmp-total}
 use Rattle.rk_model.specs.Sources.{Seen, are_points, ascends, entry_cmp, op_key, points_below, ReadsAreBounded}
 use Rattle.rk_model.specs.Covers.{is_point}
 use Rattle.rk_model.specs.declared.op.Entry.{Entry}
+use Rattle.rk_model.specs.Reads.{sum_to}
 use Rattle.rk_merge.proofs.Lists.{and_parts, and_true, all_filter, filter_ascends}
 use Rattle.rk_pointmerge.specs.Merges.{merging_seen}
 use Rattle.rk_merge.proofs.Cuts.{cut_within}
-use Rattle.rk_merge.specs.Several.{sum_to}
-use Rattle.rk_merge.proofs.Sums.{sum_to-at}
+use Rattle.rk_model.proofs.Sums.{sum_to-at}
 use Rattle.rk_pointmerge.specs.MergeLaws.{united-sorted, merged-bounded}
 use Rattle.rk_pointmerge.specs.Views.{Viewing, viewing_seen, visible, is_visible, hidden_reads, view_most}
 

@@ -10,9 +10,9 @@ use Rattle.rk_model.specs.declared.op.Op.TheVariants.{Put, Del, RangeSet, RangeU
 use Rattle.rk_model.specs.declared.op.Entry.{Entry}
 use Rattle.rk_merge.specs.Unions.{Among}
 use Rattle.rk_merge.specs.Cuts.{place_near, is_beyond, is_nearer, first_behind}
-use Rattle.rk_merge.specs.Several.{sum_to}
 use Rattle.rk_pointmerge.specs.Merges.{comes_before, rank, turning_reads, Merging, merging_seen}
 use Rattle.rk_model.specs.Runs.{IsWithin}
+use Rattle.rk_model.specs.Reads.{sum_to, reads_to}
 
 abbrev pub is_put : Op → Bool
 is_put (Put key value) = true
@@ -40,10 +40,6 @@ pub record Viewing (S : Type 0) : Type 0 where
 -- the visible entry beside a gap between the visible ones, behind it or before it
 abbrev pub beside : Bool → ℕ → List Entry → ℕ → Option Entry
 beside ahead n es gap = item_at (visible n es) (place_near ahead gap (length (visible n es)))
-
--- what the gaps up to a place read, and none where there is no place
-abbrev pub reads_to : Seen Entry → Option ℕ → ℕ
-reads_to s place = option_map_or (sum_to s.step_reads) place 0
 
 -- where an entry stands among all
 abbrev pub placed_in : List Entry → Option Entry → Option ℕ

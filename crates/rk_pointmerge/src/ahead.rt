@@ -1,8 +1,8 @@
 // The first visible entry on the way ahead.
 ghost use Rattle.std.specs.Prelude.{◌≡◌, OnOk, IfOk, IfErr};
 ghost use Rattle.rk_outside.specs.declared.error.SourceError.{SourceError};
-ghost use Rattle.rk_merge.specs.Several.{sum_to};
 ghost use Rattle.rk_model.specs.Runs.{at_rest, Runs, IsWithin};
+ghost use Rattle.rk_model.specs.Reads.{sum_to};
 ghost use Rattle.rk_pointmerge.specs.Views.{Passes, FindsAhead, ReadsAhead};
 
 use crate::kept::KeptKey;

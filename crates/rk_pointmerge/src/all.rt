@@ -3,10 +3,11 @@ ghost use Rattle.std.specs.Prelude.{◌≡◌, ◌+◌, ◌<◌, ◌≤◌, ℕ,
 ghost use Rattle.rk_outside.specs.declared.error.SourceError.{SourceError};
 ghost use Rattle.rk_model.specs.Sources.{op_key};
 ghost use Rattle.rk_merge.specs.Several.{total};
-ghost use Rattle.rk_pointmerge.specs.Merges.{united, merged, shown, turn_to};
+ghost use Rattle.rk_pointmerge.specs.Merges.{united, merged, shown};
 ghost use Rattle.rk_model.specs.Runs.{Runs, IsWithin};
+ghost use Rattle.rk_merge.specs.Directions.{turn_to, go_reads};
 ghost use Rattle.rk_merge.specs.Several.{all_rest};
-ghost use Rattle.rk_pointmerge.specs.Moves.{Placed, placed_most, Stands, Left, go_reads};
+ghost use Rattle.rk_pointmerge.specs.Moves.{Placed, placed_most, Stands, Left};
 
 use crate::one::{place_one, step_one};
 use rk_key::UserKey;

@@ -2,9 +2,8 @@
 ghost use Rattle.std.specs.Prelude.{◌≡◌, ◌+◌, ◌*◌, length, IfOk, OnOk, Some, None};
 ghost use Rattle.rk_model.specs.Sources.{points_below};
 ghost use Rattle.rk_merge.specs.Cuts.{place_near, step_place};
-ghost use Rattle.rk_pointmerge.specs.Merges.{turn_to};
 ghost use Rattle.rk_model.specs.Runs.{at_rest, Runs, IsWithin};
-ghost use Rattle.rk_pointmerge.specs.Moves.{go_reads};
+ghost use Rattle.rk_merge.specs.Directions.{turn_to, go_reads};
 ghost use Rattle.rk_pointmerge.specs.Views.{Views, Looks, Finds, ReadsWay, StandsAhead, back_most, viewed, viewed_place};
 
 use crate::ahead::find_ahead;

@@ -4,11 +4,12 @@ ghost use Rattle.rk_outside.specs.Causes.{HasSourceCause, RaisesAtMost};
 ghost use Rattle.rk_model.specs.Sources.{Goes, points_below};
 ghost use Rattle.rk_merge.specs.Cuts.{place_near, step_place};
 ghost use Rattle.rk_merge.specs.Several.{total};
-ghost use Rattle.rk_pointmerge.specs.Merges.{merged, merged_place, merging_seen, turn_to, united};
+ghost use Rattle.rk_pointmerge.specs.Merges.{merged, merged_place, merging_seen, united};
 ghost use Rattle.rk_pointmerge.specs.MergeLaws.{united-sorted, merged-bounded};
 ghost use Rattle.rk_model.specs.Runs.{Runs};
+ghost use Rattle.rk_merge.specs.Directions.{turn_to, MovesOn, go_reads};
 ghost use Rattle.rk_merge.specs.Several.{all_rest};
-ghost use Rattle.rk_pointmerge.specs.Moves.{Arrives, Stands, MovesOn, go_reads};
+ghost use Rattle.rk_pointmerge.specs.Moves.{Arrives, Stands};
 
 use crate::all::{leave, place_all};
 use crate::nearest::nearest;

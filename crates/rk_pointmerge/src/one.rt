@@ -2,8 +2,9 @@
 ghost use Rattle.std.specs.Prelude.{◌≡◌, ◌+◌, ◌<◌, ◌≤◌, length, None, IsSome, IfSome, IfOk, OnOk, IsTrue, true};
 ghost use Rattle.rk_model.specs.Sources.{behind_cut};
 ghost use Rattle.rk_model.specs.Runs.{at_rest, Runs, IsWithin};
+ghost use Rattle.rk_merge.specs.Directions.{go_reads};
 ghost use Rattle.rk_pointmerge.specs.Merges.{end_reads, turning_reads};
-ghost use Rattle.rk_pointmerge.specs.Moves.{Steps, Sought, ToLast, Turned, Placed, placed_most, go_reads, reads_left};
+ghost use Rattle.rk_pointmerge.specs.Moves.{Steps, Sought, ToLast, Turned, Placed, placed_most, reads_left};
 
 use rk_key::UserKey;
 use rk_model::PointSource;

@@ -2,8 +2,8 @@
 ghost use Rattle.std.specs.Prelude.{◌≡◌, ◌<◌, ◌^◌, length, IsSome, IfOk, IfSome, OnOk, Some, None};
 ghost use Rattle.rk_outside.specs.Causes.{HasSourceCause, RaisesAtMost};
 ghost use Rattle.rk_model.specs.Sources.{Goes, points_below};
+ghost use Rattle.rk_merge.specs.Directions.{MovesOn, go_reads};
 ghost use Rattle.rk_merge.specs.Cuts.{place_near, step_place};
-ghost use Rattle.rk_pointmerge.specs.Moves.{MovesOn, go_reads};
 ghost use Rattle.rk_pointmerge.specs.Views.{viewed, viewing_seen, marked};
 ghost use Rattle.rk_pointmerge.specs.ViewLaws.{viewed-sorted, viewed-bounded};
 

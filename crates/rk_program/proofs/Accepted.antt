@@ -80,3 +80,11 @@ pub is_found : {T A : Type 0} (called : T → List ℕ) (value : T → A) (xs : 
     → is_called name (map called xs) ≡ false → ⊥
 is_found called value xs name live absent =
     not_there (named name (named_values called value xs)) live (named-absent called value name xs absent)
+
+-- a name that is live is the name of one of them
+pub live_called : {T A : Type 0} (called : T → List ℕ) (value : T → A) (xs : List T) (name : List ℕ) → IsLive name (named_values called value xs) → is_called name (map called xs) ≡ true
+live_called called value xs name live = go (is_called name (map called xs)) refl
+  where
+    go : (b : Bool) → is_called name (map called xs) ≡ b → is_called name (map called xs) ≡ true
+    go true e = e
+    go false e = absurd (is_found called value xs name live e)

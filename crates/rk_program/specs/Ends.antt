@@ -1,11 +1,13 @@
 -- How a run ends: its statuses and its causes, and what each cause tells of the input and of the output.
-use Rattle.std.specs.Prelude.{◌≡◌, ℕ, ◌⊎◌, Bool, true, false, List, [], ◌∷◌, take, codes, Option, String, Ok, Err, ⊤}
+use Rattle.std.specs.Prelude.{◌≡◌, ℕ, ◌⊎◌, Bool, true, false, List, [], ◌∷◌, ◌++◌, take, codes, Option, String, Ok, Err, ⊤}
 use Rattle.std.specs.Io.KnownBytes.{Keeps, Appends}
 use Rattle.std.specs.String.{string_bytes}
+use Rattle.std.specs.Fmt.{decimal}
 use Rattle.std.specs.declared.alloc.Global.{Global}
 use Rattle.rk_outside.specs.Sinks.{AppendsPrefix}
 use Rattle.rk_model.specs.Spans.{same_bytes}
 use Rattle.rk_script.specs.Script.{script}
+use Rattle.rk_script.specs.Reasons.{why_text}
 use Rattle.rk_script.specs.declared.line.Line.{Line}
 use Rattle.rk_script.specs.declared.line.Why.{Why}
 use Rattle.rk_program.specs.Input.{most_file_bytes, GaveAll, GaveTooMany, IsFault}
@@ -23,6 +25,16 @@ status_of (cause.Length limit) = 3
 status_of (cause.SourceFault faults) = 4
 status_of (cause.SinkFault faults) = 5
 status_of cause.Memory = 6
+
+-- what is said of a run that ended so
+abbrev pub cause_text : Cause → List ℕ
+cause_text cause.Done = codes "done"
+cause_text cause.Words = codes "words"
+cause_text (cause.Line line why) = codes "line " ++ (decimal line ++ (codes ": " ++ why_text why))
+cause_text (cause.Length limit) = codes "file too long"
+cause_text (cause.SourceFault faults) = codes "source fault"
+cause_text (cause.SinkFault faults) = codes "sink fault"
+cause_text cause.Memory = codes "memory"
 
 -- the one list of words that is taken
 abbrev pub are_words : List (String Global) → Bool

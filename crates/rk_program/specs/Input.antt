@@ -9,6 +9,10 @@ use Rattle.rk_program.specs.declared.failure.Failure.TheVariants.{Memory, Fault}
 abbrev pub most_file_bytes : ℕ
 most_file_bytes = 67108864
 
+-- whatever came of it, no more bytes than this were taken of the source
+abbrev pub TookAtMost : Option (List ℕ) → Option (List ℕ) → ℕ → Type 0
+TookAtMost before now most = (bytes : List ℕ) × Consumes before now bytes × (length bytes ≤ most)
+
 -- the source gave these bytes, and then its end
 pub record GaveAll (before now : Option (List ℕ)) (file : List ℕ) : Type 0 where
   pub bytes : Consumes before now file

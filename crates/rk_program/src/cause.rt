@@ -2,6 +2,7 @@
 ghost use Rattle.std.specs.Prelude.{◌≡◌};
 
 use rk_script::Why;
+use std::fmt;
 
 /// Why a run ended.
 #[derive(Clone, Copy, Debug, PartialEq, Eq)]
@@ -36,6 +37,26 @@ impl Cause {
             Cause::SourceFault { .. } => 4,
             Cause::SinkFault { .. } => 5,
             Cause::Memory => 6,
+        }
+    }
+}
+
+/// What is said of a run that ended so, in one line.
+impl fmt::Display for Cause {
+    ghost use Rattle.std.specs.Prelude.{Some};
+    ghost use Rattle.rk_program.specs.Ends.{cause_text};
+
+    ghost output = { λ cause. Some (cause_text cause) };
+
+    fn fmt<W: fmt::Write>(&self, f: &mut fmt::Formatter<W>) -> fmt::Result {
+        match self {
+            Cause::Done => f.write_str("done"),
+            Cause::Words => f.write_str("words"),
+            Cause::Line { line, why } => write!(f, "line {line}: {why}"),
+            Cause::Length { .. } => f.write_str("file too long"),
+            Cause::SourceFault { .. } => f.write_str("source fault"),
+            Cause::SinkFault { .. } => f.write_str("sink fault"),
+            Cause::Memory => f.write_str("memory"),
         }
     }
 }

@@ -1,7 +1,7 @@
 // The whole of a source.
 ghost use Rattle.std.specs.Prelude.{◌≡◌, ◌+◌, ◌-◌, ◌<◌, ◌≤◌, ◌++◌, List, ℕ, [], length, take, vec_len, IfOk, IfErr, OnOk, MatchResult};
 ghost use Rattle.std.specs.Io.KnownBytes.{Consumes, IsAtEnd};
-ghost use Rattle.rk_program.specs.Input.{Gave, IsFailure};
+ghost use Rattle.rk_program.specs.Input.{Gave, TookAtMost, IsFailure};
 
 use crate::failure::Failure;
 use rk_outside::{Failed, Source};
@@ -17,6 +17,7 @@ const PIECE: usize = 4096;
 /// least one byte, and no more than one byte above the limit is ever taken.
 pub fn read_all<S: Source>(alloc: Global, source: &mut S) -> Result<Vec<u8>, Failure>
     ensures gave { IfOk result (λ file. Gave (S.left source.old) (S.left source.new) file.items) }
+    ensures taken { TookAtMost (S.left source.old) (S.left source.new) (MOST_FILE_BYTES + 1) }
     ensures no_fault { OnOk result (S.fault_count source.new ≡ S.fault_count source.old) }
     ensures cause { IfErr result (IsFailure (S.fault_count source.old) (S.fault_count source.new)) }
     ensures later { S.fault_count source.old ≤ S.fault_count source.new }
@@ -37,6 +38,7 @@ fn read_piece<S: Source>(source: &mut S, file: &mut Vec<u8>) -> Result<(), Failu
     requires { vec_len file.old ≤ MOST_FILE_BYTES }
     ensures piece { OnOk result ((piece : List ℕ) × (file.new.items ≡ file.old.items ++ piece) × Consumes (S.left source.old) (S.left source.new) piece × (piece ≡ [] → IsAtEnd (S.left source.new))) }
     ensures len { OnOk result (vec_len file.new ≤ MOST_FILE_BYTES + 1) }
+    ensures taken { TookAtMost (S.left source.old) (S.left source.new) (MOST_FILE_BYTES + 1 - vec_len file.old) }
     ensures no_fault { OnOk result (S.fault_count source.new ≡ S.fault_count source.old) }
     ensures cause { IfErr result (IsFailure (S.fault_count source.old) (S.fault_count source.new)) }
     ensures later { S.fault_count source.old ≤ S.fault_count source.new }

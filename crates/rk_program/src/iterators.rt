@@ -1,6 +1,6 @@
 // The options of iterators and their moves, as lines ask for them.
-ghost use Rattle.std.specs.Prelude.{◌≡◌, IfOk, OnOk, IsSome, IfSome};
-ghost use Rattle.rk_model.specs.Moves.{opened_over, after_move};
+ghost use Rattle.std.specs.Prelude.{◌≡◌, IfOk, OnOk, IsSome, IfSome, is_some};
+ghost use Rattle.rk_model.specs.Moves.{opened_over, after_move, key_at};
 ghost use Rattle.rk_program.specs.Transcript.{move_of};
 
 use rk_key::{Suffix, UserKey};
@@ -40,10 +40,11 @@ fn copy_bound(bound: &Option<UserKey>) -> Result<Option<UserKey>, NoMemory>
     }
 }
 
-/// Makes the move that a line asks for.
+/// Makes the move that a line asks for, and answers whether the iterator is at a key then.
 pub fn make_move(plain: &mut Plain, event: &Event) -> Result<bool, NoMemory>
     requires { IsSome (move_of event.now) }
-    ensures { IfSome (move_of event.now) (λ m. OnOk result (plain.new ≡ after_move plain.old m.1)) }
+    ensures moved { IfSome (move_of event.now) (λ m. OnOk result (plain.new ≡ after_move plain.old m.1)) }
+    ensures answer { IfOk result (λ there. there ≡ is_some (key_at plain.new.cursor)) }
 {
     match event {
         Event::First { .. } => plain.first(),

@@ -1,10 +1,10 @@
 // The top call.
-ghost use Rattle.std.specs.Prelude.{◌≡◌, ℕ, ◌≤◌, ◌⊎◌, List, Some, Ok, IfSome, IfOk, IfErr, OnOk, OnErr, IsTrue, not, length};
+ghost use Rattle.std.specs.Prelude.{◌≡◌, ℕ, ◌≤◌, ◌+◌, ◌⊎◌, List, Some, Ok, IfSome, IfOk, IfErr, OnOk, OnErr, IsTrue, not, length};
 ghost use Rattle.std.specs.Io.KnownBytes.{Keeps};
 ghost use Rattle.rk_outside.specs.Causes.{Rose};
 ghost use Rattle.rk_script.specs.Script.{no_names, script};
 ghost use Rattle.rk_script.specs.declared.line.Line.{Line};
-ghost use Rattle.rk_program.specs.Input.{most_file_bytes, GaveTooMany, IsFault, IsFailure};
+ghost use Rattle.rk_program.specs.Input.{most_file_bytes, GaveTooMany, TookAtMost, IsFault, IsFailure};
 ghost use Rattle.rk_program.specs.Ends.{status_of, are_words, is_words, OnDone, OnLine, OnLength, OnSourceFault, OnSinkFault, OnMemory, OnNotBegun, UnlessSourceFault, UnlessSinkFault, IsDoneOrMemory, GaveLines, GaveBadLine, Wrote, WrotePart, DidAll, DidPart, IsNoFile, IsEnd};
 ghost use Rattle.rk_program.specs.Transcript.{AreAccepted};
 
@@ -33,6 +33,9 @@ pub fn run<S: Source, K: Sink, V>(
     // The words are refused exactly where they are not the one word `run`, and then nothing was read.
     ensures words { is_words result.cause ≡ not (are_words words.now) }
     ensures unread { IsTrue (is_words result.cause) → source.new ≡ source.old }
+
+    // However it ends, at most one byte above the limit was taken.
+    ensures taken { TookAtMost (S.left source.old) (S.left source.new) (most_file_bytes + 1) }
 
     // Each other cause tells what came of the input, and a fault comes only where that object's count rose.
     ensures length { OnLength result.cause (λ limit. (limit ≡ most_file_bytes) × GaveTooMany (S.left source.old) (S.left source.new)) }
@@ -74,6 +77,7 @@ pub fn run<S: Source, K: Sink, V>(
 fn end<S: Source, K: Sink>(alloc: Global, words: &[String], source: &mut S, sink: &mut K) -> Cause
     ensures words { is_words result ≡ not (are_words words.now) }
     ensures unread { IsTrue (is_words result) → source.new ≡ source.old }
+    ensures taken { TookAtMost (S.left source.old) (S.left source.new) (most_file_bytes + 1) }
     ensures end { IsEnd (S.left source.old) (S.left source.new) (K.written sink.old) (K.written sink.new) (S.fault_count source.old) (S.fault_count source.new) (K.fault_count sink.old) (K.fault_count sink.new) result }
     ensures source_count { S.fault_count source.old ≤ S.fault_count source.new }
     ensures sink_count { K.fault_count sink.old ≤ K.fault_count sink.new }
@@ -116,6 +120,7 @@ fn is_run(words: &[String]) -> bool
 // Reads a source to its end, and the lines of what it gave.
 fn read_lines<S: Source>(alloc: Global, source: &mut S) -> Result<Vec<Line>, NoFile>
     ensures lines { IfOk result (λ lines. GaveLines (S.left source.old) (S.left source.new) lines.items) }
+    ensures taken { TookAtMost (S.left source.old) (S.left source.new) (most_file_bytes + 1) }
     ensures no_fault { OnOk result (S.fault_count source.new ≡ S.fault_count source.old) }
     ensures cause { IfErr result (IsNoFile (S.left source.old) (S.left source.new) (S.fault_count source.old) (S.fault_count source.new)) }
     ensures later { S.fault_count source.old ≤ S.fault_count source.new }

@@ -1,4 +1,7 @@
 // The state of a run: what was committed, the batches of the writers, the snapshots, and the open iterators.
+ghost use Rattle.std.specs.Prelude.{◌≡◌, ◌<◌, true, false, map, take, length, slice_index_or};
+ghost use Rattle.rk_script.specs.Naming.{is_called};
+
 use crate::batches::{append, give, place_of};
 use crate::iterators::{make_move, open_over};
 use crate::replies;
@@ -167,9 +170,7 @@ impl Session {
         requires live { IsLive name.now (numbers self.old.snapshots.items) }
         ensures { (s : SessionState) → StandsFor self.old s → IfOk result (λ text. (t : SessionState) × Does s (Release name.now) text.items t × StandsFor self.new t) }
     {
-        let Some(i) = find(&self.snapshots, name.bytes()) else {
-            unreachable!()
-        };
+        let i = live_place(&self.snapshots, name);
         let _ = self.snapshots.remove(i);
         replies::released(self.alloc, name.bytes())
     }
@@ -210,9 +211,7 @@ impl Session {
         let Some(snapshot) = at else {
             return self.entries.len() as u64;
         };
-        let Some(i) = find(&self.snapshots, snapshot.bytes()) else {
-            unreachable!()
-        };
+        let i = live_place(&self.snapshots, snapshot);
         self.snapshots[i].number
     }
 
@@ -222,9 +221,7 @@ impl Session {
         requires live { IsLive iter.now (opens self.old.iterators.items) }
         ensures { (s : SessionState) → StandsFor self.old s → IfOk result (λ text. (t : SessionState) × Does s event.now text.items t × StandsFor self.new t) }
     {
-        let Some(i) = find(&self.iterators, iter.bytes()) else {
-            unreachable!()
-        };
+        let i = live_place(&self.iterators, iter);
         make_move(&mut self.iterators[i].plain, event)?;
         replies::stands(self.alloc, iter.bytes(), &self.iterators[i].plain)
     }
@@ -234,10 +231,21 @@ impl Session {
         requires live { IsLive iter.now (opens self.old.iterators.items) }
         ensures { (s : SessionState) → StandsFor self.old s → IfOk result (λ text. (t : SessionState) × Does s (Close iter.now) text.items t × StandsFor self.new t) }
     {
-        let Some(i) = find(&self.iterators, iter.bytes()) else {
-            unreachable!()
-        };
+        let i = live_place(&self.iterators, iter);
         let _ = self.iterators.remove(i);
         replies::closed(self.alloc, iter.bytes())
+    }
+}
+
+// The place of the first thing of a name that is live.
+fn live_place<T: Named>(things: &[T], name: &Bytes) -> usize
+    requires { is_called name.now (map T.called things.now) ≡ true }
+    ensures within { result < length things.now }
+    ensures first { is_called name.now (map T.called (take result things.now)) ≡ false }
+    ensures here { (d : T) → T.called (slice_index_or things.now result d) ≡ name.now }
+{
+    match find(things, name.bytes()) {
+        Some(i) => i,
+        None => unreachable!(),
     }
 }

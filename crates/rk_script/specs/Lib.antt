@@ -5,3 +5,4 @@ pub mod Seen
 pub mod Naming
 pub mod Script
 pub mod Laws
+pub mod Reasons

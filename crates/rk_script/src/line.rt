@@ -1,6 +1,7 @@
 // The lines of a command file, and why a file is refused.
 use rk_key::{Suffix, UserKey};
 use rk_outside::Bytes;
+use std::fmt;
 
 /// A line that is not skipped, with its number, counted from 1 over all lines.
 #[derive(Debug, Drop)]
@@ -121,6 +122,28 @@ pub enum Why {
     Taken,
     /// There are as many things of this kind as there may be at once.
     TooMany,
+}
+
+impl fmt::Display for Why {
+    ghost use Rattle.std.specs.Prelude.{Some};
+    ghost use Rattle.rk_script.specs.Reasons.{why_text};
+
+    ghost output = { λ why. Some (why_text why) };
+
+    fn fmt<W: fmt::Write>(&self, f: &mut fmt::Formatter<W>) -> fmt::Result {
+        f.write_str(match self {
+            Why::Byte => "Byte",
+            Why::Word => "Word",
+            Why::Count => "Count",
+            Why::Name => "Name",
+            Why::Escape => "Escape",
+            Why::Key => "Key",
+            Why::Suffix => "Suffix",
+            Why::NoName => "NoName",
+            Why::Taken => "Taken",
+            Why::TooMany => "TooMany",
+        })
+    }
 }
 
 /// Why a file could not be read.

@@ -1,77 +1,27 @@
 -- Ends in order, and the spans between neighbours of them.
-use Rattle.std.proofs.Common.{◌≡◌, ℕ, Bool, true, false, not, cond, List, [], ◌∷◌, Some, None, refl, ap, sym, ◌∙◌, ◌⊎◌, inl, inr, subst}
+use Rattle.std.proofs.Common.{◌≡◌, ℕ, Bool, true, false, not, List, [], ◌∷◌, Some, None, refl, ap, sym, ◌∙◌, ◌⊎◌, inl, inr, subst}
 use Rattle.std.specs.Prelude.{◌||◌}
 use Rattle.std.specs.declared.cmp.Ordering.TheVariants.{Equal}
 use Rattle.std.specs.List.{list_all, cons_option}
 use Rattle.std.specs.Ordering.{is_eq}
-use Rattle.std.proofs.lemmas.Cmp.{tied_itself}
 use Rattle.rk_key.specs.Keys.{key_cmp}
 use Rattle.rk_key.specs.Laws.{key_cmp-total}
-use Rattle.rk_key.proofs.TotalOrders.{lt_itself, lt_back, lt_trans, eq_is}
+use Rattle.rk_key.proofs.TotalOrders.{lt_itself, lt_back, lt_trans}
 use Rattle.rk_model.specs.Lists.{none_of}
-use Rattle.rk_model.specs.Spans.{insert_key, sorted_keys, same_bytes}
+use Rattle.rk_model.specs.Spans.{sorted_keys, same_bytes}
 use Rattle.rk_model.specs.declared.span.RangeKey.{RangeKey}
 use Rattle.rk_model.specs.declared.span.Span.{Span}
 use Rattle.rk_fragment.specs.Fragments.{span_with, spans_between}
 use Rattle.rk_fragment.specs.Intervals.{Rises}
 use Rattle.rk_merge.specs.Unions.{Among}
 use Rattle.rk_model.proofs.Members.{among_all, every_gives}
+use Rattle.rk_model.proofs.SortedKeys.{sorted_among, among_sorted}
 use Rattle.rk_merge.specs.Cuts.{first_behind, last_before}
 use Rattle.std.proofs.lemmas.Slice.Eq.{bytes_eq-Decides}
 use Rattle.std.proofs.lemmas.Map.Text.{is_eq-slice_cmp}
 use Rattle.rk_spanmerge.specs.Merges.{are_distinct}
 use Rattle.rk_spanmerge.specs.Moves.{lt, takes}
 use Rattle.rk_spanmerge.proofs.Chains.{true_false}
-
--- sorted keys are the keys
-insert_from : (x : List ℕ) (ys : List (List ℕ)) (k : List ℕ) → Among k (insert_key x ys) → Among k (x ∷ ys)
-insert_from x [] k m = m
-insert_from x (y ∷ ys) k m = go (lt x y) (is_eq (key_cmp x y)) m (insert_from x ys k)
-  where
-    later : Among k (x ∷ ys) → Among k (x ∷ y ∷ ys)
-    later (inl e) = inl e
-    later (inr n) = inr (inr n)
-
-    go : (s t : Bool) → Among k (cond s (x ∷ y ∷ ys) (cond t (y ∷ ys) (y ∷ insert_key x ys))) → (Among k (insert_key x ys) → Among k (x ∷ ys)) → Among k (x ∷ y ∷ ys)
-    go true t m ih = m
-    go false true m ih = inr m
-    go false false (inl e) ih = inr (inl e)
-    go false false (inr n) ih = later (ih n)
-
-pub sorted_from : (xs : List (List ℕ)) (k : List ℕ) → Among k (sorted_keys xs) → Among k xs
-sorted_from [] k m = m
-sorted_from (x ∷ xs) k m = go (insert_from x (sorted_keys xs) k m) (sorted_from xs k)
-  where
-    go : Among k (x ∷ sorted_keys xs) → (Among k (sorted_keys xs) → Among k xs) → Among k (x ∷ xs)
-    go (inl e) ih = inl e
-    go (inr n) ih = inr (ih n)
-
-insert_holds : (x : List ℕ) (ys : List (List ℕ)) (k : List ℕ) → Among k ys → Among k (insert_key x ys)
-insert_holds x [] k m = absurd m
-insert_holds x (y ∷ ys) k m = go (lt x y) (is_eq (key_cmp x y)) m (insert_holds x ys k)
-  where
-    go : (s t : Bool) → Among k (y ∷ ys) → (Among k ys → Among k (insert_key x ys)) → Among k (cond s (x ∷ y ∷ ys) (cond t (y ∷ ys) (y ∷ insert_key x ys)))
-    go true t m ih = inr m
-    go false true m ih = m
-    go false false (inl e) ih = inl e
-    go false false (inr n) ih = inr (ih n)
-
-abbrev Tied : List ℕ → List (List ℕ) → Type 0
-Tied k ys = (j : List ℕ) × Among j ys × (key_cmp k j ≡ Equal)
-
-insert_tied : (x : List ℕ) (ys : List (List ℕ)) → Tied x (insert_key x ys)
-insert_tied x [] = (x, inl refl, tied_itself key_cmp-total x)
-insert_tied x (y ∷ ys) = go (lt x y) (is_eq (key_cmp x y)) refl (insert_tied x ys)
-  where
-    go : (s t : Bool) → is_eq (key_cmp x y) ≡ t → Tied x (insert_key x ys) → Tied x (cond s (x ∷ y ∷ ys) (cond t (y ∷ ys) (y ∷ insert_key x ys)))
-    go true t e ih = (x, inl refl, tied_itself key_cmp-total x)
-    go false true e ih = (y, inl refl, eq_is key_cmp-total x y e)
-    go false false e ih = (ih.0, inr ih.1, ih.2)
-
-sorted_tied : (xs : List (List ℕ)) (k : List ℕ) → Among k xs → Tied k (sorted_keys xs)
-sorted_tied [] k m = absurd m
-sorted_tied (x ∷ xs) k (inl e) = rw e (insert_tied x (sorted_keys xs))
-sorted_tied (x ∷ xs) k (inr m) = let ih = sorted_tied xs k m in (ih.0, insert_holds x (sorted_keys xs) ih.0 ih.1, ih.2)
 
 same_is : (x y : List ℕ) → same_bytes x y ≡ true → x ≡ y
 same_is x y e = (bytes_eq-Decides x y).0 (sym (is_eq-slice_cmp x y) ∙ e)
@@ -88,9 +38,9 @@ distinct_is xs all a b m n e =
 
 pub sorted_has : (xs : List (List ℕ)) → are_distinct xs ≡ true → (k : List ℕ) → Among k xs → Among k (sorted_keys xs)
 sorted_has xs all k m =
-    let t = sorted_tied xs k m in
-    let e : k ≡ t.0 = distinct_is xs all k t.0 m (sorted_from xs t.0 t.1) t.2 in
-    rw e t.1
+    let t = among_sorted xs k m in
+    let e : k ≡ t.0 = distinct_is xs all k t.0 m (sorted_among xs t.0 t.1.0) t.1.1 in
+    rw e t.1.0
 
 -- keys of a rising list that no order tells apart are one
 pub rising_same : (es : List (List ℕ)) → Rises es → (a b : List ℕ) → Among a es → Among b es → lt a b ≡ false → lt b a ≡ false → a ≡ b

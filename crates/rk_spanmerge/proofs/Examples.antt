@@ -1,11 +1,11 @@
 -- Worked examples: what the definitions give on short lists of spans. Each is computed.
-use Rattle.std.proofs.Common.{◌≡◌, true, ℕ, List, [], ◌∷◌, Some, None, refl}
+use Rattle.std.proofs.Common.{◌≡◌, true, false, length, ℕ, List, [], ◌∷◌, Some, None, refl}
 use Rattle.std.specs.Prelude.{codes}
 use Rattle.rk_model.specs.declared.span.RangeKey.{RangeKey}
 use Rattle.rk_model.specs.declared.span.RangeKind.TheVariants.{Del}
-use Rattle.rk_model.specs.Sources.{in_memory, sound_spans}
+use Rattle.rk_model.specs.Sources.{Seen, in_memory, sound_spans}
 use Rattle.rk_model.specs.declared.span.Span.{Span}
-use Rattle.rk_spanmerge.specs.Merges.{cut_spans, united, merged}
+use Rattle.rk_spanmerge.specs.Merges.{cut_spans, united, merged, merged_steps, merged_turn}
 
 abbrev key : ℕ → RangeKey
 key n = record { kind = Del; seq = n; suffix = []; value = [] }
@@ -46,3 +46,30 @@ one_number_twice = refl
 
 its_second_place : (merged (λ spans. in_memory 1 (sound_spans spans) None) (lists 2) (Some (span (codes "b") (codes "c") (key 2 ∷ key 1 ∷ []))) true 0).place ≡ Some 1
 its_second_place = refl
+
+-- what the merge reads where a seek reads ten, a step one, and a turn two more
+abbrev dear : List Span → Seen Span
+dear spans = record {
+  held = sound_spans spans;
+  place = None;
+  count = length spans;
+  seek_reads = λ key. 10;
+  seek_most = 10;
+  step_reads = λ gap. 1;
+  turn_reads = λ place. 2;
+  turn_to_next = 0;
+  turn_to_prev = 0;
+}
+
+-- The gap at b is crossed back by a step of the second source, and the one at c ahead by one of the first. Each may
+-- be a turn of that source.
+what_steps_read : (merged_steps dear (united dear (lists 2)) (lists 2) 1 ≡ 3) × (merged_steps dear (united dear (lists 2)) (lists 2) 2 ≡ 3)
+what_steps_read = (refl, refl)
+
+-- a step off the start may be a turn of both, from where they stand ahead at their spans, and so one off the end
+what_steps_read_at_the_ends : (merged_steps dear (united dear (lists 2)) (lists 2) 0 ≡ 6) × (merged_steps dear (united dear (lists 2)) (lists 2) 3 ≡ 6)
+what_steps_read_at_the_ends = (refl, refl)
+
+-- a turn may seek in both
+what_turns_read : (merged_turn dear (united dear (lists 2)) (lists 2) true (Some 1) ≡ 20) × (merged_turn dear (united dear (lists 2)) (lists 2) false (Some 1) ≡ 20)
+what_turns_read = (refl, refl)

@@ -18,7 +18,8 @@ use Rattle.rk_merge.proofs.Cuts.{near_item, cut_agree}
 use Rattle.rk_spanmerge.specs.Merges.{span_ends, keys_at, cut_spans, are_distinct}
 use Rattle.rk_spanmerge.specs.Moves.{lt, takes, first_end, IsNearestEnd, IsBare, IsBetween, Shows}
 use Rattle.rk_spanmerge.proofs.Chains.{keys_over_cons, inside, true_false}
-use Rattle.rk_spanmerge.proofs.Ends.{sorted_from, sorted_has, rising_same, IsNext, between_next, first_at, first_nowhere, last_at, last_nowhere}
+use Rattle.rk_model.proofs.SortedKeys.{sorted_among}
+use Rattle.rk_spanmerge.proofs.Ends.{sorted_has, rising_same, IsNext, between_next, first_at, first_nowhere, last_at, last_nowhere}
 use Rattle.rk_spanmerge.proofs.Pools.{ends_in, ends_from}
 
 none_newest : (ks : List RangeKey) → none_of (newest_first ks) ≡ none_of ks
@@ -79,7 +80,7 @@ module _ (pool : List Span) (distinct : are_distinct (span_ends pool) ≡ true) 
   has k m = sorted_has (span_ends pool) distinct k m
 
   from : (k : List ℕ) → Among k es → Among k (span_ends pool)
-  from k m = sorted_from (span_ends pool) k m
+  from k m = sorted_among (span_ends pool) k m
 
   keyed : (t : Span) → Among t pool → (x : List ℕ) → lt x t.start ≡ false → lt x t.end ≡ true → none_of (keys_at pool x) ≡ false
   keyed t m x p q = none_newest (keys_over pool x) ∙ over_some pool x t m (proper t m).1 (inside (lt x t.start) (lt x t.end) p q)

@@ -3,13 +3,14 @@ use Prim.Native.Nat.{zero, suc}
 use Rattle.std.proofs.Common.{◌≡◌, ℕ, ◌+◌, ◌<◌, ◌≤◌, length, Bool, true, false, not, cond, List, [], ◌∷◌, Option, Some, None, IfSome, MatchOption, slice_get, unwrap_or, refl, ap, sym, ◌∙◌, ◌⊎◌, inl, inr, subst, arith, add-one}
 use Rattle.std.specs.Option.{option_or}
 use Rattle.std.proofs.lemmas.Option.{slice_get_within}
+use Rattle.std.proofs.lemmas.Bool.{cases_lt}
 use Rattle.rk_key.specs.Laws.{key_cmp-total}
 use Rattle.rk_key.proofs.TotalOrders.{lt_back, lt_ge, ge_lt, ge_trans}
 use Rattle.rk_model.specs.Sources.{Seen, count_before, item_at, behind_cut, before_cut}
 use Rattle.rk_model.specs.declared.span.Span.{Span}
 use Rattle.rk_merge.specs.Unions.{Among}
 use Rattle.rk_merge.specs.Cuts.{first_behind, last_before, near_cut, place_near, step_place}
-use Rattle.rk_merge.proofs.Cuts.{near_is, near_item, cut_all, cut_none, behind_some, behind_none, before_suc, lt_or_le}
+use Rattle.rk_merge.proofs.Cuts.{near_is, near_item, cut_all, cut_none, behind_some, behind_none, before_suc}
 use Rattle.rk_spanmerge.specs.Merges.{left_end, told_items}
 use Rattle.rk_spanmerge.specs.Moves.{lt, takes, passes, turns, Stands, Passed}
 use Rattle.rk_spanmerge.proofs.Chains.{Chain, proper_of, ahead_none, back_none, true_false}
@@ -144,7 +145,7 @@ none_item xs None x e f = cc
 none_item xs (Some i) x e f = cc
 
 crossed_ahead : (z : List ℕ) (ahead : Bool) (x : List ℕ) (ss : List Span) → Chain ss → Crosses true (takes true z) (takes ahead x) ss → (s : Span) → near_cut true (takes true z) ss ≡ Some s → CrossedAt ahead x ss (place_near true (count_before (takes true z) ss) (length ss)) s
-crossed_ahead z ahead x ss h c s e = go (lt_or_le (count_before (takes true z) ss) (length ss))
+crossed_ahead z ahead x ss h c s e = go (cases_lt (count_before (takes true z) ss) (length ss))
   where
     found : item_at ss (behind_cut (count_before (takes true z) ss) (length ss)) ≡ Some s
     found = near_item true (takes true z) ss ∙ e

@@ -6,19 +6,21 @@ use Rattle.std.specs.Option.{option_map_or}
 use Rattle.std.specs.Ordering.{is_lt}
 use Rattle.std.specs.Cmp.{IsTotalOrder}
 use Rattle.std.proofs.lemmas.Cmp.{on_total}
+use Rattle.std.proofs.lemmas.Bool.{cases_lt}
 use Rattle.rk_key.specs.Keys.{key_cmp}
 use Rattle.rk_key.specs.Laws.{key_cmp-total}
 use Rattle.rk_key.proofs.TotalOrders.{lt_itself, lt_ge, ge_lt}
 use Rattle.rk_outside.specs.declared.error.SourceError.{SourceError}
 use Rattle.rk_model.specs.Sources.{Seen, Same, Goes, IsHere, are_spans, ascends, count_before, spans_begun, behind_cut, before_cut, item_at}
 use Rattle.rk_model.specs.declared.span.Span.{Span}
+use Rattle.rk_merge.specs.Directions.{MovesOn}
 use Rattle.rk_merge.specs.Unions.{Among}
 use Rattle.rk_merge.specs.Cuts.{near_cut, place_near, step_place}
-use Rattle.rk_merge.proofs.Cuts.{near_item, near_is, rank_item, rank_within, cut_within, cut_none, behind_some, behind_none, before_suc, lt_or_le}
+use Rattle.rk_merge.proofs.Cuts.{near_item, near_is, rank_item, rank_within, cut_within, cut_none, behind_some, behind_none, before_suc}
 use Rattle.rk_spanmerge.specs.Merges.{Merging, merging_seen, merged, merged_count, merged_seek, merged_steps, merged_turn, turn_from, step_most, on_reads, back_reads, left_end, span_place, united}
 use Rattle.rk_merge.specs.Several.{all_rest, total}
 use Rattle.rk_merge.proofs.Several.{rest_total}
-use Rattle.rk_spanmerge.specs.Moves.{lt, takes, Arrives, IsMerging, MovesOn, CountsOn}
+use Rattle.rk_spanmerge.specs.Moves.{lt, takes, Arrives, IsMerging, CountsOn}
 use Rattle.rk_spanmerge.proofs.Sources.{rest_united, rest_most}
 use Rattle.rk_spanmerge.proofs.Chains.{Chain, chain_of, behind, proper_of}
 
@@ -60,7 +62,7 @@ none_some : (p : Option ℕ) (i : ℕ) → p ≡ None → p ≡ Some i → ⊥
 none_some p i a b = cc
 
 near_within : (ahead : Bool) (n len i : ℕ) → n ≤ len → place_near ahead n len ≡ Some i → i < len
-near_within true n len i le e = go (lt_or_le n len)
+near_within true n len i le e = go (cases_lt n len)
   where
     go : (n < len) ⊎ (len ≤ n) → i < len
     go (inl h) = let f : n ≡ i = cc (behind_some n len h) in omega arith
@@ -222,7 +224,7 @@ module _ {S : Type 0} (seen : S → Seen Span) (sorted : (ss : List S) → IfSom
 
   step_moves : (ahead : Bool) (xs : List Span) (i : ℕ) (p : Option ℕ) → p ≡ step_place ahead xs (Some i) → MovesOn ahead (Some i) p
   step_moves true xs i None e = tt
-  step_moves true xs i (Some j) e = go (lt_or_le (i + 1) (length xs))
+  step_moves true xs i (Some j) e = go (cases_lt (i + 1) (length xs))
     where
       go : (i + 1 < length xs) ⊎ (length xs ≤ i + 1) → i < j
       go (inl h) = let f : j ≡ i + 1 = cc (behind_some (i + 1) (length xs) h) in omega arith

@@ -1,13 +1,12 @@
 -- The sources of a merge together: what no call changes of them, and one call after another.
-use Rattle.std.proofs.Common.{◌≡◌, ℕ, ◌+◌, ◌*◌, ◌<◌, ◌≤◌, length, get_or, set, List, [], ◌∷◌, ◌++◌, None, Result, Ok, Err, refl, ap, sym, ◌∙◌, arith}
+use Rattle.std.proofs.Common.{◌≡◌, ℕ, ◌+◌, ◌*◌, ◌<◌, ◌≤◌, length, get_or, List, [], ◌∷◌, ◌++◌, None, Result, Ok, Err, refl, ap, sym, ◌∙◌, arith}
 use Rattle.std.specs.Result.{IsErrAnd}
 use Rattle.rk_outside.specs.declared.error.SourceError.{SourceError}
 use Rattle.rk_model.specs.Sources.{Seen}
-use Rattle.rk_model.specs.Runs.{at_rest, Runs}
 use Rattle.rk_model.specs.declared.span.Span.{Span}
 use Rattle.rk_model.proofs.Runs.{ran_from, ran_none, ran_runs, ran_refused}
 use Rattle.rk_merge.specs.Several.{total, all_rest}
-use Rattle.rk_merge.proofs.Several.{told_rest, rest_total, untold as untold_one, runs_set as runs_set_in}
+use Rattle.rk_merge.proofs.Several.{told_rest, rest_total, untold as untold_one}
 use Rattle.rk_spanmerge.specs.Merges.{united, pooled, told_items}
 use Rattle.rk_spanmerge.specs.Moves.{Seeks}
 
@@ -25,12 +24,8 @@ module _ {S : Type 0} (seen : S → Seen Span) where
   pub rest_pooled : (xs ys : List S) → all_rest seen xs ≡ all_rest seen ys → pooled seen xs ≡ pooled seen ys
   rest_pooled xs ys e = pooled_rest xs ∙ ap (pooled (λ r. r)) e ∙ sym (pooled_rest ys)
 
-  untold : (ss : List S) (k : ℕ) (d : S) → k < length ss → (seen (get_or ss k d)).held ≡ None → united seen ss ≡ None
+  pub untold : (ss : List S) (k : ℕ) (d : S) → k < length ss → (seen (get_or ss k d)).held ≡ None → united seen ss ≡ None
   untold ss k d h e = rw (untold_one seen ss k d h e) refl
-
-  pub runs_set : {T : Type 0} (ss : List S) (k : ℕ) (v d : S) (f f' r r' m : ℕ) (result : Result T SourceError) → k < length ss
-      → Runs (at_rest (seen (get_or ss k d))) (at_rest (seen v)) (seen (get_or ss k d)).held f f' r r' m result → Runs (all_rest seen ss) (all_rest seen (set ss k v)) (united seen ss) f f' r r' m result
-  runs_set ss k v d f f' r r' m result h runs = runs_set_in seen (united seen ss) ss k v d f f' r r' m result h (untold ss k d h) runs
 
   pub rest_most : (xs ys : List S) → all_rest seen xs ≡ all_rest seen ys → total (λ s. (seen s).seek_most) xs ≡ total (λ s. (seen s).seek_most) ys
   rest_most xs ys e = rest_total seen (λ s. s.seek_most) (λ x. refl) xs ys e

@@ -1,6 +1,5 @@
 -- What the sources of a merge read in a step.
-use Prim.Native.Nat.{zero, suc}
-use Rattle.std.proofs.Common.{◌≡◌, ℕ, ◌+◌, ◌-◌, ◌<◌, ◌≤◌, nat_lt, length, get_or, Bool, true, false, not, cond, List, [], ◌∷◌, Option, Some, None, is_some, IfSome, All, unwrap_or, slice_get, refl, ap, sym, ◌∙◌, subst, arith, add-one, lt-ltb}
+use Rattle.std.proofs.Common.{◌≡◌, ℕ, ◌+◌, ◌-◌, ◌<◌, ◌≤◌, nat_lt, length, get_or, Bool, true, false, not, cond, List, [], Option, Some, None, is_some, IfSome, All, unwrap_or, slice_get, refl, ap, sym, ◌∙◌, subst, arith, add-one, lt-ltb}
 use Rattle.std.specs.Prelude.{IsTrue}
 use Rattle.std.specs.Option.{option_map_or}
 use Rattle.std.proofs.lemmas.Option.{slice_get_within}
@@ -8,34 +7,21 @@ use Rattle.rk_outside.specs.Causes.{RaisesAtMost}
 use Rattle.rk_model.specs.Sources.{Seen, ReadsAreBounded, are_spans, count_before, before_cut, item_at, next_reads, prev_reads, spans_begun, spans_ended}
 use Rattle.rk_model.specs.Runs.{IsWithin}
 use Rattle.rk_model.specs.declared.span.Span.{Span}
+use Rattle.rk_model.specs.Reads.{sum_to}
+use Rattle.rk_merge.specs.Directions.{go_reads}
 use Rattle.rk_merge.specs.Unions.{Among}
-use Rattle.rk_merge.specs.Several.{total, sum_to}
+use Rattle.rk_merge.specs.Several.{total}
 use Rattle.rk_merge.specs.Cuts.{place_near}
-use Rattle.rk_merge.proofs.Sums.{sum_to-at}
+use Rattle.rk_model.proofs.Sums.{sum_to-at}
 use Rattle.rk_merge.proofs.Cuts.{before_suc}
+use Rattle.rk_merge.proofs.Totals.{total_le, total_sum, total_zero}
 use Rattle.rk_spanmerge.specs.Merges.{left_end, told_items, united, merged, merged_steps, merged_turn, turn_from, span_place, step_most, on_reads, back_reads}
-use Rattle.rk_spanmerge.specs.Moves.{takes, passes, turns, shown, Stands, Arrives, go_reads, shown_reads, pass_reads}
+use Rattle.rk_spanmerge.specs.Moves.{takes, passes, turns, shown, Stands, Arrives, shown_reads, pass_reads}
 use Rattle.rk_spanmerge.proofs.Chains.{Chain}
 use Rattle.rk_spanmerge.proofs.Pools.{whole, told_at, told_if, chain_at}
 use Rattle.rk_spanmerge.proofs.Passing.{Apart, CrossedAt, crossed_at}
 use Rattle.rk_spanmerge.proofs.Told.{apart_at}
 use Rattle.rk_spanmerge.proofs.Places.{span_at, sound_of}
-
--- sums
-total_le : {S : Type 0} (f g : S → ℕ) (ss : List S) → ((k : ℕ) (d : S) → k < length ss → f (get_or ss k d) ≤ g (get_or ss k d)) → total f ss ≤ total g ss
-total_le f g [] h = omega arith
-total_le f g (s ∷ ss) h =
-    let one = h zero s (omega arith) in
-    let more = total_le f g ss (λ k d l. h (suc k) d (omega arith)) in
-    omega arith
-
-total_sum : {S : Type 0} (f g : S → ℕ) (ss : List S) → total (λ s. f s + g s) ss ≡ total f ss + total g ss
-total_sum f g [] = refl
-total_sum f g (s ∷ ss) = let ih = total_sum f g ss in omega arith
-
-total_zero : {S : Type 0} (ss : List S) → total (λ s. 0) ss ≡ 0
-total_zero [] = refl
-total_zero (s ∷ ss) = let ih = total_zero ss in omega (arith, ih)
 
 -- a bound that is raised
 pub raises_more : (r r' m k : ℕ) → m ≤ k → RaisesAtMost r r' m → RaisesAtMost r r' k
@@ -143,13 +129,13 @@ pass_told was ahead c s told chain apart stands bounded = rw (is s.held told) (o
 -- all of them
 module _ {S : Type 0} (seen : S → Seen Span) (sorted : (s : S) → IfSome (seen s).held (λ xs. IsTrue (are_spans xs))) (merges : (ss : List S) → IfSome (united seen ss) (λ xs. IsTrue (are_spans xs))) (bounded : (s : S) → ReadsAreBounded (seen s)) (ss : List S) (c : Span) (was : Bool) (arrives : Arrives seen ss was (Some c)) where
   untold_most : (ahead : Bool) (x : List ℕ) → total (λ s. pass_reads was ahead x (seen s)) ss ≤ total (λ s. step_most (seen s)) ss
-  untold_most ahead x = total_le (λ s. pass_reads was ahead x (seen s)) (λ s. step_most (seen s)) ss (λ k d h. pass_most was ahead x (seen (get_or ss k d)) (arrives.within k d h) (bounded (get_or ss k d)))
+  untold_most ahead x = total_le (λ s. pass_reads was ahead x (seen s)) (λ s. step_most (seen s)) ss ss refl (λ k d h. pass_most was ahead x (seen (get_or ss k d)) (arrives.within k d h) (bounded (get_or ss k d)))
 
   told_most : (ahead : Bool) (spans : List Span) → united seen ss ≡ Some spans → Among c spans → All (λ s. Stands was (left_end (not was) c) (seen s)) ss
       → total (λ s. pass_reads was ahead (left_end ahead c) (seen s)) ss ≤ total (λ s. side_reads ahead (left_end ahead c) (seen s)) ss + total (λ s. cond (turns was ahead) ((seen s).seek_reads (left_end ahead c)) 0) ss
   told_most ahead spans u m at =
       let told = (whole seen ss spans u).told in
-      let le = total_le (λ s. pass_reads was ahead (left_end ahead c) (seen s)) (λ s. side_reads ahead (left_end ahead c) (seen s) + cond (turns was ahead) ((seen s).seek_reads (left_end ahead c)) 0) ss
+      let le = total_le (λ s. pass_reads was ahead (left_end ahead c) (seen s)) (λ s. side_reads ahead (left_end ahead c) (seen s) + cond (turns was ahead) ((seen s).seek_reads (left_end ahead c)) 0) ss ss refl
       (λ k d h. pass_told was ahead c (seen (get_or ss k d)) (told_at seen ss told k d h) (chain_at seen sorted ss told k d h) (apart_at seen sorted ss spans u c m k d h) (at k d h) (bounded (get_or ss k d))) in
       let sum = total_sum (λ s. side_reads ahead (left_end ahead c) (seen s)) (λ s. cond (turns was ahead) ((seen s).seek_reads (left_end ahead c)) 0) ss in
       omega (arith, le, sum)

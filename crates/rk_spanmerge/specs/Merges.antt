@@ -8,8 +8,9 @@ use Rattle.rk_model.specs.Sources.{Seen, before_cut, item_at, spans_begun, spans
 use Rattle.rk_model.specs.Spans.{sorted_keys, same_bytes}
 use Rattle.rk_model.specs.declared.span.RangeKey.{RangeKey}
 use Rattle.rk_model.specs.declared.span.Span.{Span}
+use Rattle.rk_model.specs.Reads.{sum_to}
 use Rattle.rk_fragment.specs.Fragments.{newest_first, spans_between, keys_over, KeysDiffer}
-use Rattle.rk_merge.specs.Several.{sum_to, total}
+use Rattle.rk_merge.specs.Several.{total}
 
 -- the starts and ends of spans
 abbrev pub span_ends : List Span → List (List ℕ)

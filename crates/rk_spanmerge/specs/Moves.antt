@@ -5,7 +5,7 @@ use Rattle.std.specs.Ordering.{is_lt}
 use Rattle.rk_key.specs.Keys.{key_cmp}
 use Rattle.rk_outside.specs.declared.error.SourceError.{SourceError}
 use Rattle.rk_model.specs.Lists.{none_of}
-use Rattle.rk_model.specs.Sources.{Seen, count_before, item_at, next_reads, prev_reads, Rises}
+use Rattle.rk_model.specs.Sources.{Seen, count_before, item_at}
 use Rattle.rk_model.specs.Runs.{IsWithin, Runs}
 use Rattle.rk_model.specs.declared.span.RangeKey.{RangeKey}
 use Rattle.rk_model.specs.declared.span.Span.{Span}
@@ -13,6 +13,7 @@ use Rattle.rk_fragment.specs.Fragments.{insert_newest}
 use Rattle.rk_merge.specs.Unions.{Among}
 use Rattle.rk_merge.specs.Several.{total, all_rest}
 use Rattle.rk_merge.specs.Cuts.{place_near, step_place}
+use Rattle.rk_merge.specs.Directions.{go_reads}
 use Rattle.rk_spanmerge.specs.Merges.{Merging, left_end, span_ends, keys_at, told_items, united}
 
 abbrev pub lt : List ℕ → List ℕ → Bool
@@ -55,13 +56,6 @@ pub record Passed (was ahead : Bool) (x : List ℕ) (before now : Seen Span) : T
       (now.place ≡ (if turns was ahead then place_near ahead (count_before (takes ahead x) ss) (length ss) else before.place))
       (λ u. now.place ≡ (if passes ahead x u then step_place ahead ss before.place else before.place)))
   pub within : IsWithin before → IsWithin now
-
--- what a step may read, on or back, and the turn that it may be
-abbrev pub go_reads : {A : Type 0} → Bool → Seen A → ℕ
-go_reads ahead s = if ahead then next_reads s else prev_reads s
-
-abbrev pub turn_to : {A : Type 0} → Bool → Seen A → ℕ
-turn_to ahead s = if ahead then s.turn_to_next else s.turn_to_prev
 
 -- what a source reads past a key
 abbrev pub shown_reads : Bool → Bool → List ℕ → Seen Span → Option Span → ℕ
@@ -155,8 +149,3 @@ pub record IsMerging {S : Type 0} (seen : S → Seen Span) (m : Merging S) : Typ
 abbrev pub CountsOn : Bool → ℕ → ℕ → Type 0
 CountsOn true before now = before < now
 CountsOn false before now = now < before
-
--- the place has gone on, or back, where there is one
-abbrev pub MovesOn : Bool → Option ℕ → Option ℕ → Type 0
-MovesOn true before now = Rises before now
-MovesOn false before now = Rises now before

@@ -1,10 +1,11 @@
 // The moves of all sources of a merge.
 ghost use Rattle.std.specs.Prelude.{◌≡◌, ◌<◌, ℕ, length, All, OnOk, IfSome, IsSome, if◌then◌else◌, slice_index_or};
 ghost use Rattle.rk_model.specs.Runs.{at_rest, IsWithin, Runs};
+ghost use Rattle.rk_merge.specs.Directions.{go_reads};
 ghost use Rattle.rk_merge.specs.Several.{all_rest, total};
 ghost use Rattle.rk_merge.specs.Cuts.{step_place};
 ghost use Rattle.rk_spanmerge.specs.Merges.{united};
-ghost use Rattle.rk_spanmerge.specs.Moves.{Seeks, Stands, Passed, go_reads, pass_reads, outlasts, turns};
+ghost use Rattle.rk_spanmerge.specs.Moves.{Seeks, Stands, Passed, pass_reads, outlasts, turns};
 
 use rk_key::UserKey;
 use rk_model::{Span, SpanSource};

@@ -2,10 +2,11 @@
 ghost use Rattle.std.specs.Prelude.{◌≡◌, length, IsSome, IfSome, IfOk, OnOk, None, true};
 ghost use Rattle.rk_outside.specs.Causes.{HasSourceCause, RaisesAtMost};
 ghost use Rattle.rk_model.specs.Sources.{Goes, count_before};
+ghost use Rattle.rk_merge.specs.Directions.{turn_to, go_reads, MovesOn};
 ghost use Rattle.rk_merge.specs.Cuts.{place_near, step_place};
 ghost use Rattle.rk_spanmerge.specs.Merges.{merged, merged_seek, merging_seen};
 ghost use Rattle.rk_spanmerge.specs.MergeLaws.{united-sorted, merged-bounded};
-ghost use Rattle.rk_spanmerge.specs.Moves.{takes, turn_to, go_reads, CountsOn, MovesOn};
+ghost use Rattle.rk_spanmerge.specs.Moves.{takes, CountsOn};
 
 use crate::find::{find, leave};
 use rk_key::UserKey;

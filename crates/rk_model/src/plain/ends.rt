@@ -1,14 +1,14 @@
 // The written ends, and the cover at each.
-ghost use Rattle.std.specs.Prelude.{◌≡◌, ◌&&◌, IfOk, OnOk, MatchOption, [], ◌∷◌, map, if◌then◌else◌};
+ghost use Rattle.std.specs.Prelude.{◌≡◌, ◌&&◌, IfOk, OnOk, map, if◌then◌else◌};
 ghost use Rattle.rk_model.specs.Covers.{cover};
-ghost use Rattle.rk_model.specs.Spans.{at_or_above, above, below, in_bounds, op_ends, insert_key, written_ends};
+ghost use Rattle.rk_model.specs.Spans.{at_or_above, above, below, in_bounds, insert_key, written_ends};
 ghost use Rattle.rk_model.specs.Plain.{covered_ends};
 
 use crate::copies::copy_key;
 use crate::plain::cover::Cover;
 use crate::plain::covers::cover;
 use crate::plain::keys::{insert_bound, insert_key};
-use crate::{Entry, IterOptions, Op};
+use crate::{Entry, IterOptions};
 use rk_key::UserKey;
 use rk_outside::NoMemory;
 use std::alloc::Global;
@@ -62,20 +62,6 @@ impl IterOptions {
         ensures { result ≡ (above self.now.lower x.now && below self.now.upper x.now) }
     {
         is_above(&self.lower, x) && is_below(&self.upper, x)
-    }
-}
-
-impl Op {
-    /// The start and the end of an operation on a span.
-    fn ends(&self) -> Option<(&UserKey, &UserKey)>
-        ensures { MatchOption result (op_ends self.now ≡ []) (λ ends. op_ends self.now ≡ ends.0.now ∷ ends.1.now ∷ []) }
-    {
-        match self {
-            Op::Put { .. } | Op::Del { .. } => None,
-            Op::RangeSet { start, end, .. }
-            | Op::RangeUnset { start, end, .. }
-            | Op::RangeDel { start, end } => Some((start, end)),
-        }
     }
 }
 

@@ -1,8 +1,8 @@
 use Rattle.std.proofs.Common.{◌≡◌, ◌-◌, true}
-use Rattle.rk_merge.specs.Several.{sum_to}
 use Rattle.rk_pointmerge.specs.Merges.{reach}
 use Rattle.rk_model.specs.Runs.{at_rest, IsWithin}
 use Rattle.rk_model.proofs.Runs.{Ran}
+use Rattle.rk_model.specs.Reads.{sum_to}
 use Rattle.rk_pointmerge.proofs.AheadWalks.{Told}
 use Rattle.rk_pointmerge.proofs.ahead.find_ahead.Given as goal
 

@@ -1,8 +1,8 @@
 use Rattle.std.proofs.Common.{◌∙◌, ◌≤◌, ◌+◌, sym, ap, arith, Some, option_copied, refl}
 use Rattle.rk_model.specs.Runs.{at_rest}
-use Rattle.rk_pointmerge.specs.Moves.{go_reads}
 use Rattle.rk_pointmerge.specs.Views.{view_most}
 use Rattle.rk_model.proofs.Runs.{ran_from, ran_ran, ran_none, ran_ok, ran_refused, rest_held}
+use Rattle.rk_merge.specs.Directions.{go_reads}
 use Rattle.rk_pointmerge.proofs.Walks.{is_copied}
 use Rattle.rk_pointmerge.proofs.ViewPlaces.{step_looks, go_most, find_most}
 use Rattle.rk_pointmerge.proofs.ViewReads.{runs_within, step_told, step_refused}

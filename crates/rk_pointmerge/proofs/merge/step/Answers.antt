@@ -7,8 +7,8 @@ use Rattle.rk_outside.specs.declared.error.SourceError.{SourceError}
 use Rattle.rk_merge.specs.Cuts.{step_place}
 use Rattle.rk_model.specs.Sources.{Seen, Goes}
 use Rattle.rk_model.specs.declared.op.Entry.{Entry}
+use Rattle.rk_merge.specs.Directions.{go_reads}
 use Rattle.rk_pointmerge.specs.Merges.{merged, merged_place, merging_seen}
-use Rattle.rk_pointmerge.specs.Moves.{go_reads}
 use Rattle.rk_pointmerge.proofs.Arrivals.{arrives_goes, refused_goes, merging_is}
 use Rattle.rk_pointmerge.proofs.merge.step.Goals as goal
 

@@ -7,9 +7,9 @@ use Rattle.rk_model.specs.Sources.{Seen, Goes}
 use Rattle.rk_model.specs.declared.op.Entry.{Entry}
 use Rattle.rk_pointmerge.specs.Merges.{merging_seen}
 use Rattle.rk_pointmerge.specs.MergeLaws.{united-sorted}
-use Rattle.rk_pointmerge.specs.Moves.{MovesOn, go_reads}
 use Rattle.rk_pointmerge.specs.Views.{viewed, viewing_seen, marked, Views}
 use Rattle.rk_model.proofs.Runs.{rest_held}
+use Rattle.rk_merge.specs.Directions.{MovesOn, go_reads}
 use Rattle.rk_pointmerge.proofs.ViewPlaces.{view_goes, view_refused, view_moves, step_to}
 use Rattle.rk_pointmerge.proofs.ViewReads.{mark_reads}
 use Rattle.rk_pointmerge.proofs.visible.step.Goals as goal

@@ -1,6 +1,6 @@
-use Rattle.std.proofs.Common.{◌∙◌}
+use Rattle.std.proofs.Common.{◌∙◌, arith}
 use Rattle.std.proofs.lemmas.Result.{err_from_is_err_and}
-use Rattle.rk_program.proofs.CauseLemmas.{IsFailure-whole}
+use Rattle.rk_program.proofs.CauseLemmas.{IsFailure-whole, took_more}
 use Rattle.rk_program.proofs.input.read_all.Goals as goal
 
 pub returns-in_err-read_piece-clause-cause : goal.returns-in_err-read_piece-clause-cause
@@ -13,3 +13,7 @@ returns-then-len-before-clause-no_fault g c = c.in_ok-read_piece.ensures.no_faul
 
 pub returns-clause-no_fault : goal.returns-clause-no_fault
 returns-clause-no_fault g c = c.loop-file.invariant.no_fault
+
+pub returns-in_err-read_piece-clause-taken : goal.returns-in_err-read_piece-clause-taken
+returns-in_err-read_piece-clause-taken g c =
+    took_more _ _ _ c.loop-file.file.items _ _ (omega (arith, c.loop-file.invariant.within)) c.loop-file.invariant.given c.in_err-read_piece.ensures.taken

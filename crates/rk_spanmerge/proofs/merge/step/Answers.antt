@@ -11,9 +11,10 @@ use Rattle.rk_merge.proofs.Several.{rest_length}
 use Rattle.rk_model.specs.Sources.{Seen, Goes}
 use Rattle.rk_model.specs.declared.span.Span.{Span}
 use Rattle.rk_model.proofs.Runs.{ran_none, ran_refused}
+use Rattle.rk_merge.specs.Directions.{go_reads, MovesOn}
 use Rattle.rk_spanmerge.specs.Merges.{left_end, merged, merging_seen, united}
 use Rattle.rk_spanmerge.specs.MergeLaws.{united-sorted}
-use Rattle.rk_spanmerge.specs.Moves.{pass_reads, go_reads, Arrives, IsMerging, MovesOn}
+use Rattle.rk_spanmerge.specs.Moves.{pass_reads, Arrives, IsMerging}
 use Rattle.rk_spanmerge.proofs.Sources.{rest_united}
 use Rattle.rk_spanmerge.proofs.Places.{found_goes, refused_goes, step_goes, moves, merging_is, none_merging, found_merging}
 use Rattle.rk_spanmerge.proofs.StepReads.{steps_most, raises_more}

@@ -1,12 +1,12 @@
--- Sums over the steps of a source, and over sources.
+-- Sums over the steps of a source.
 use Rattle.std.proofs.Common.{◌≡◌, ℕ, zero, suc, ◌+◌, ◌<◌, ◌≤◌, arith, ◌⊎◌, inl, inr, add-one}
-use Rattle.rk_merge.proofs.Cuts.{lt_or_le}
-use Rattle.rk_merge.specs.Several.{sum_to}
+use Rattle.std.proofs.lemmas.Bool.{cases_lt}
+use Rattle.rk_model.specs.Reads.{sum_to}
 
 pub sum_to-more : (f : ℕ → ℕ) (k n : ℕ) → k ≤ n → sum_to f k ≤ sum_to f n
 sum_to-more f zero zero le = omega arith
 sum_to-more f (suc k) zero le = absurd (omega arith)
-sum_to-more f k (suc n) le = go (lt_or_le k (suc n)) (sum_to-more f k n)
+sum_to-more f k (suc n) le = go (cases_lt k (suc n)) (sum_to-more f k n)
   where
     go : (k < suc n) ⊎ (suc n ≤ k) → (k ≤ n → sum_to f k ≤ sum_to f n) → sum_to f k ≤ sum_to f (suc n)
     go (inl h) ih = let more = ih (omega arith) in omega arith
