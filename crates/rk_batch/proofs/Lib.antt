@@ -7,3 +7,4 @@ pub mod Batches
 pub mod Uniqueness
 pub mod Firsts
 mod Examples
+pub mod FailedChecks

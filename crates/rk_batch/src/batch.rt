@@ -44,7 +44,11 @@ impl Model for Batch {
 }
 
 impl Batch {
-    /// The batch without operations.
+    /// The batch without operations. It takes no memory.
+    ///
+    /// # Errors
+    ///
+    /// None: `NoMemory` is there for a body that takes some.
     pub fn new(alloc: Global) -> Result<Batch, NoMemory>
         ensures { IfOk result (λ batch. batch ≡ []) }
     {
@@ -182,7 +186,11 @@ impl Batch {
         self.size
     }
 
-    /// The batch's bytes.
+    /// The bytes of a batch with at least one operation.
+    ///
+    /// # Errors
+    ///
+    /// `NoMemory` where the bytes find no memory.
     pub fn encode(&self, alloc: Global) -> Result<Vec<u8>, NoMemory>
         requires { 1 ≤ length self.now }
         ensures spelled { IfOk result (λ bytes. bytes.items ≡ batch_bytes self.now) }

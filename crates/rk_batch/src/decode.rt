@@ -101,10 +101,7 @@ fn head_at(bytes: &[u8]) -> Option<(u16, &[u8])>
         return None;
     }
     let (count, rest) = number_at(rest)?;
-    if count < 1 {
-        return None;
-    }
-    if count > MAX_OPS {
+    if count < 1 || count > MAX_OPS {
         return None;
     }
     Some((count, rest))

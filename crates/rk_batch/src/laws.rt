@@ -1,5 +1,5 @@
 // What holds of all batches and their bytes.
-ghost use Rattle.std.specs.Prelude.{◌≡◌, ℕ, List};
+ghost use Rattle.std.specs.Prelude.{◌≡◌, ◌⊎◌, ℕ, List};
 ghost use Rattle.rk_model.specs.declared.op.Op.{Op};
 ghost use Rattle.rk_batch.specs.declared.error.BatchError.{BatchError as AnError};
 ghost use Rattle.rk_batch.specs.Checks.{AllPass, IsFirst, checks};
@@ -20,9 +20,10 @@ pub fn one_place()
     ensures one_place { (bytes : List ℕ) (a b : ℕ) → IsBadBatch bytes a → IsBadBatch bytes b → a ≡ b }
 {}
 
-/// An operation that is refused is not one that may be added, and one refusal comes first.
-#[tactic(auto, using(crate::proofs::Firsts::one_first, crate::proofs::Refusing::first_fails))]
+/// An operation either may be added, or one refusal comes first.
+#[tactic(auto, using(crate::proofs::Firsts::one_first, crate::proofs::Refusing::first_fails, crate::proofs::FailedChecks::all_or_first))]
 pub fn one_refusal()
+    ensures added_or_refused { (ops : List Op) (op : Op) → AllPass (checks ops op) ⊎ ((error : AnError) × IsFirst (checks ops op) error) }
     ensures refused { (ops : List Op) (op : Op) (error : AnError) → IsFirst (checks ops op) error → ¬ AllPass (checks ops op) }
     ensures one_refusal { (ops : List Op) (op : Op) (a b : AnError) → IsFirst (checks ops op) a → IsFirst (checks ops op) b → a ≡ b }
 {}

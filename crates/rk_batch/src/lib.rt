@@ -9,8 +9,8 @@
 //! says which bytes are one. Each batch has one spelling, and no two batches share one: see
 //! [`one_spelling`] and [`one_place`].
 //!
-//! It stands on `rk_key` for keys and suffixes, on `rk_model` for the operations, and on `byteorder` for the
-//! numbers in the bytes.
+//! It stands on `rk_key` for keys and suffixes, on `rk_outside` for want of memory and what is too long, on
+//! `rk_model` for the operations, and on `byteorder` for the numbers in the bytes.
 #![tactic(auto)]
 
 mod batch;

@@ -1,14 +1,15 @@
 -- At a key of a span, all of its entries are over the key.
 use Rattle.std.proofs.Common.{◌≡◌, ℕ, Bool, true, false, cond, List, [], ◌∷◌, map, filter, refl, ap, ◌∙◌}
 use Rattle.std.specs.Prelude.{nat_le}
+use Rattle.rk_model.specs.Kept.{is_kept}
 use Rattle.rk_model.specs.Operations.{within, is_over}
-use Rattle.rk_model.specs.Covers.{over, upto}
+use Rattle.rk_model.specs.Covers.{over, upto, cover_of}
 use Rattle.rk_model.specs.declared.span.RangeKind.{RangeKind}
 use Rattle.rk_model.specs.declared.span.RangeKind.TheVariants.{Set, Unset, Del}
 use Rattle.rk_model.specs.declared.span.RangeKey.{RangeKey}
 use Rattle.rk_model.specs.declared.span.Span.{Span}
 use Rattle.rk_model.proofs.Filters.{filter-map}
-use Rattle.rk_coalesce.specs.SpanKeys.{op_of, entry_of, cover_of, is_kept, CoverAtEachKey, KeptAtEachKey}
+use Rattle.rk_coalesce.specs.SpanKeys.{op_of, entry_of, CoverAtEachKey, KeptAtEachKey}
 
 is_over_is : (start end x : List ℕ) (kind : RangeKind) (suffix value : List ℕ) → is_over x (op_of start end kind suffix value) ≡ within start end x
 is_over_is start end x Set suffix value = refl

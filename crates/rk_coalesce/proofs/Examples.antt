@@ -1,12 +1,12 @@
 -- Worked examples: what the range keys of a short span give. Each is computed.
 use Rattle.std.proofs.Common.{◌≡◌, ℕ, List, [], ◌∷◌, true, false, refl}
 use Rattle.std.specs.Prelude.{codes}
-use Rattle.rk_model.specs.Covers.{upto}
+use Rattle.rk_model.specs.Covers.{upto, cover_of}
 use Rattle.rk_model.specs.declared.span.RangeKind.TheVariants.{Set, Unset, Del}
 use Rattle.rk_model.specs.declared.span.RangeKey.{RangeKey}
 use Rattle.rk_model.specs.declared.span.Span.{Span}
 use Rattle.rk_model.specs.declared.span.SuffixValue.{SuffixValue}
-use Rattle.rk_coalesce.specs.SpanKeys.{span_entries, cover_of, kept_keys}
+use Rattle.rk_coalesce.specs.SpanKeys.{span_entries, kept_keys}
 
 abbrev span_of : List RangeKey → Span
 span_of keys = record { start = codes "a"; end = codes "c"; keys = keys }

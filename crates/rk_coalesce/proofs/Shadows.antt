@@ -13,12 +13,12 @@ use Rattle.std.proofs.lemmas.List.{take_more}
 use Rattle.std.proofs.lemmas.List.Folds.{list_any-append}
 use Rattle.rk_key.specs.Keys.{suffix_cmp}
 use Rattle.rk_key.specs.Laws.{suffix_cmp-total}
-use Rattle.rk_model.specs.Kept.{stripe_of, same_stripe, in_lowest, is_set, shadows}
+use Rattle.rk_model.specs.Kept.{stripe_of, same_stripe, in_lowest, is_set, shadows, is_kept}
 use Rattle.rk_model.specs.declared.span.RangeKind.{RangeKind}
 use Rattle.rk_model.specs.declared.span.RangeKind.TheVariants.{Set, Unset, Del}
 use Rattle.rk_model.specs.declared.span.RangeKey.{RangeKey}
 use Rattle.rk_model.specs.declared.span.Span.{Span}
-use Rattle.rk_coalesce.specs.SpanKeys.{op_of, entry_of, is_kept, kept_keys}
+use Rattle.rk_coalesce.specs.SpanKeys.{op_of, entry_of, kept_keys}
 use Rattle.rk_coalesce.specs.Places.{Place, place_cmp, suffix_if, is_set_kind, is_at, TellsNewest, is_shadowed, stays}
 
 place_total : IsTotalOrder place_cmp

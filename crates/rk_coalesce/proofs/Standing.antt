@@ -7,7 +7,7 @@ use Rattle.std.proofs.lemmas.Bool.Decides.{nat_tests}
 use Rattle.std.proofs.lemmas.List.{take_more}
 use Rattle.std.proofs.lemmas.List.Elements.{filter_map-append}
 use Rattle.rk_model.specs.Lists.{first_of}
-use Rattle.rk_model.specs.Covers.{upto, ends_set, standing, by_suffix}
+use Rattle.rk_model.specs.Covers.{upto, ends_set, standing, by_suffix, cover_of}
 use Rattle.rk_model.specs.Kept.{same_stripe, shadows}
 use Rattle.rk_model.specs.declared.op.Op.TheVariants.{RangeSet}
 use Rattle.rk_model.specs.declared.op.Entry.{Entry}
@@ -17,7 +17,7 @@ use Rattle.rk_model.specs.declared.span.RangeKey.{RangeKey}
 use Rattle.rk_model.specs.declared.span.Span.{Span}
 use Rattle.rk_model.specs.declared.span.SuffixValue.{SuffixValue}
 use Rattle.rk_model.proofs.Filters.{list_any-filter}
-use Rattle.rk_coalesce.specs.SpanKeys.{op_of, entry_of, span_entries, cover_of}
+use Rattle.rk_coalesce.specs.SpanKeys.{op_of, entry_of, span_entries}
 use Rattle.rk_coalesce.specs.Places.{Place, TellsNewest, is_shadowed, pair_of}
 use Rattle.rk_coalesce.proofs.Shadows.{any_same, any_map, shadowed_by, shadowed_is}
 

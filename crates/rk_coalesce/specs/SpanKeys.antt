@@ -1,9 +1,8 @@
 -- The range keys of a span as entries over its keys, and what they give there.
-use Rattle.std.specs.Prelude.{◌≡◌, ℕ, Bool, true, ◌&&◌, not, nat_lt, List, map, filter}
-use Rattle.std.specs.List.{list_any, filter_map}
+use Rattle.std.specs.Prelude.{◌≡◌, ℕ, Bool, true, List, map, filter}
 use Rattle.rk_model.specs.Operations.{within}
-use Rattle.rk_model.specs.Covers.{upto, standing, by_suffix, cover}
-use Rattle.rk_model.specs.Kept.{same_stripe, in_lowest, is_set, shadows, kept}
+use Rattle.rk_model.specs.Covers.{upto, cover, cover_of}
+use Rattle.rk_model.specs.Kept.{is_kept, kept}
 use Rattle.rk_model.specs.declared.op.Op.{Op}
 use Rattle.rk_model.specs.declared.op.Op.TheVariants.{RangeSet, RangeUnset, RangeDel}
 use Rattle.rk_model.specs.declared.op.Entry.{Entry}
@@ -11,7 +10,6 @@ use Rattle.rk_model.specs.declared.span.RangeKind.{RangeKind}
 use Rattle.rk_model.specs.declared.span.RangeKind.TheVariants.{Set, Unset, Del}
 use Rattle.rk_model.specs.declared.span.RangeKey.{RangeKey}
 use Rattle.rk_model.specs.declared.span.Span.{Span}
-use Rattle.rk_model.specs.declared.span.SuffixValue.{SuffixValue}
 
 -- what a range key of a kind does over a span
 abbrev pub op_of : List ℕ → List ℕ → RangeKind → List ℕ → List ℕ → Op
@@ -25,16 +23,6 @@ entry_of span k = record { op = op_of span.start span.end k.kind k.suffix k.valu
 
 abbrev pub span_entries : Span → List Entry
 span_entries span = map (entry_of span) span.keys
-
--- the pairs that hold at a key, where all of the entries are over it
-abbrev pub cover_of : List Entry → List SuffixValue
-cover_of here = by_suffix (filter_map (λ e. standing here e.seq e.op) here)
-
--- whether an entry is kept among entries that are all over one key
-abbrev pub is_kept : List Entry → List ℕ → Bool → Entry → Bool
-is_kept here stripes bottom e =
-    not (list_any (λ f. nat_lt e.seq f.seq && same_stripe stripes e.seq f.seq && shadows f.op e.op) here)
-    && not (bottom && in_lowest stripes e.seq && not (is_set e.op))
 
 -- the range keys of a span whose entries are kept, in the span's order
 abbrev pub kept_keys : Span → List ℕ → Bool → List RangeKey

@@ -1,8 +1,8 @@
 ghost use Rattle.std.specs.Prelude.{◌≡◌, IfOk, OnOk};
-ghost use Rattle.rk_model.specs.Covers.{upto, by_suffix};
+ghost use Rattle.rk_model.specs.Covers.{upto, by_suffix, cover_of};
 ghost use Rattle.rk_coalesce.specs.Numbers.{newest_at};
 ghost use Rattle.rk_coalesce.specs.Places.{pair_of};
-ghost use Rattle.rk_coalesce.specs.SpanKeys.{span_entries, cover_of};
+ghost use Rattle.rk_coalesce.specs.SpanKeys.{span_entries};
 
 use crate::newest::Newest;
 use crate::place::is_set;

@@ -4,12 +4,11 @@ use Rattle.std.specs.Prelude.{filter}
 use Rattle.std.specs.List.{filter_map, flat_map, zip, cons_option}
 use Rattle.std.proofs.lemmas.List.{append-nil}
 use Rattle.rk_model.specs.Operations.{within}
-use Rattle.rk_model.specs.Spans.{op_ends}
+use Rattle.rk_model.specs.Spans.{op_ends, KeysRise}
 use Rattle.rk_model.specs.declared.op.Entry.{Entry}
 use Rattle.rk_model.specs.declared.span.RangeKey.{RangeKey}
 use Rattle.rk_model.specs.declared.span.Span.{Span}
 use Rattle.rk_fragment.specs.Fragments.{keys_at, written, span_with, fragments, keys_over}
-use Rattle.rk_fragment.specs.Intervals.{Rises}
 use Rattle.rk_fragment.proofs.Order.{lt, lt_itself, lt_trans, ge_trans, alike}
 use Rattle.rk_fragment.proofs.Rising.{IsIn, EndsIn, ends_in, sorted_rises, below_all}
 use Rattle.rk_fragment.proofs.Over.{same_keys, no_keys_below, no_keys_above}
@@ -25,14 +24,14 @@ keys_over_one a b (k ∷ ks) spans x =
     let rest = filter (λ s. within s.start s.end x) spans in
     elim (within a b x) as (λ w. flat_map (λ s. s.keys) (cond w (span ∷ rest) rest) ≡ cond w (k ∷ ks) [] ++ keys_over spans x) [ true ↦ refl | false ↦ refl ]
 
-below_spans : (es : List Entry) (x b : List ℕ) (bs : List (List ℕ)) → Rises (b ∷ bs) → lt x b ≡ true → keys_over (spans_along es (b ∷ bs)) x ≡ []
+below_spans : (es : List Entry) (x b : List ℕ) (bs : List (List ℕ)) → KeysRise (b ∷ bs) → lt x b ≡ true → keys_over (spans_along es (b ∷ bs)) x ≡ []
 below_spans es x b [] h l = refl
 below_spans es x b (c ∷ cs) h l =
     keys_over_one b c (keys_at es b) (spans_along es (c ∷ cs)) x
     ∙ rw l (below_spans es x c cs h.1 (lt_trans x b c l h.0.0))
 
 -- the key's range keys among those from an end on that is not above it, where ends above that one are among the rest
-from_end : (es : List Entry) (all : List (List ℕ)) → EndsIn all es → (x a : List ℕ) (rest : List (List ℕ)) → lt x a ≡ false → Rises (a ∷ rest)
+from_end : (es : List Entry) (all : List (List ℕ)) → EndsIn all es → (x a : List ℕ) (rest : List (List ℕ)) → lt x a ≡ false → KeysRise (a ∷ rest)
     → ((k : List ℕ) → IsIn k all → lt a k ≡ true → IsIn k rest)
     → keys_over (spans_along es (a ∷ rest)) x ≡ keys_at es x
 from_end es all ends x a [] g h after = sym (no_keys_above x all es ends past)
@@ -67,7 +66,7 @@ from_end es all ends x a (b ∷ bs) g h after =
 pub each_key : (es : List Entry) (x : List ℕ) → keys_over (fragments es) x ≡ keys_at es x
 each_key es x = go (written es) (ends_in es) (sorted_rises (flat_map (λ e. op_ends e.op) es))
   where
-    go : (all : List (List ℕ)) → EndsIn all es → Rises all → keys_over (spans_along es all) x ≡ keys_at es x
+    go : (all : List (List ℕ)) → EndsIn all es → KeysRise all → keys_over (spans_along es all) x ≡ keys_at es x
     go [] ends h = sym (no_keys_below x [] es ends (λ k m. absurd m))
     go (a ∷ rest) ends h = pick (lt x a) refl
       where

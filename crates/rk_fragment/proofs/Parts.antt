@@ -8,13 +8,13 @@ use Rattle.std.proofs.lemmas.Bool.{cases_lt}
 use Rattle.std.specs.Option.{option_map_or}
 use Rattle.rk_model.specs.Operations.{within, is_over}
 use Rattle.rk_model.specs.Covers.{over}
-use Rattle.rk_model.specs.Spans.{op_ends}
+use Rattle.rk_model.specs.Spans.{op_ends, KeysRise}
 use Rattle.rk_model.specs.declared.op.Op.{Op}
 use Rattle.rk_model.specs.declared.op.Op.TheVariants.{Put, Del, RangeSet, RangeUnset, RangeDel}
 use Rattle.rk_model.specs.declared.op.Entry.{Entry}
 use Rattle.rk_model.specs.declared.span.RangeKey.{RangeKey}
 use Rattle.rk_fragment.specs.Fragments.{range_key, newest_first, keys_at, span_with}
-use Rattle.rk_fragment.specs.Intervals.{Rises, starts, with_key, with_entry, interval_at, spans_from, spans_of}
+use Rattle.rk_fragment.specs.Intervals.{starts, with_key, with_entry, interval_at, spans_from, spans_of}
 use Rattle.rk_fragment.specs.declared.intervals.Interval.{Interval}
 use Rattle.rk_fragment.proofs.Order.{lt, lt_trans}
 use Rattle.rk_fragment.proofs.Over.{same_if, and_false}
@@ -26,7 +26,7 @@ all_at P (i ∷ is) zero d h l = h.0
 all_at P (i ∷ is) (suc k) d h l = all_at P is k d h.1 (omega arith)
 
 -- where starts rise, those below a key come first
-pub partitioned : (key : List ℕ) (is : List Interval) → Rises (starts is) → IsPartitionedBy (λ i. lt i.start key) is
+pub partitioned : (key : List ℕ) (is : List Interval) → KeysRise (starts is) → IsPartitionedBy (λ i. lt i.start key) is
 partitioned key [] h i j d le l p = absurd (omega arith)
 partitioned key (x ∷ xs) h zero zero d le l p = p
 partitioned key (x ∷ xs) h zero (suc j) d le l p = lt_trans x.start (get_or xs j d).start key (all_at (λ y. lt x.start y ≡ true) xs j d h.0 (omega arith)) p

@@ -2,17 +2,16 @@
 use Rattle.std.proofs.Common.{◌≡◌, ◌≢◌, ℕ, ◌<◌, ◌≤◌, Bool, true, false, cond, List, [], ◌∷◌, refl, ap, sym, ◌∙◌, arith}
 use Rattle.std.specs.Prelude.{not, nat_lt}
 use Rattle.std.specs.List.{AllByRecursion, filter_map, cons_option, list_all, flat_map}
-use Rattle.rk_model.specs.Operations.{is_over}
+use Rattle.rk_model.specs.Operations.{is_over, NumbersDiffer}
 use Rattle.rk_model.specs.Covers.{over}
-use Rattle.rk_model.specs.Spans.{op_ends}
+use Rattle.rk_model.specs.Spans.{op_ends, KeysRise}
 use Rattle.rk_model.specs.Sources.{ascends, are_newest_first, is_span, are_spans}
 use Rattle.rk_model.specs.declared.op.Op.{Op}
 use Rattle.rk_model.specs.declared.op.Op.TheVariants.{Put, Del, RangeSet, RangeUnset, RangeDel}
 use Rattle.rk_model.specs.declared.op.Entry.{Entry}
 use Rattle.rk_model.specs.declared.span.RangeKey.{RangeKey}
 use Rattle.rk_model.specs.declared.span.Span.{Span}
-use Rattle.rk_fragment.specs.Fragments.{range_key, newest_first, keys_at, written, span_with, spans_between, FallsBy, NumbersDiffer, FragmentsAreSpans}
-use Rattle.rk_fragment.specs.Intervals.{Rises}
+use Rattle.rk_fragment.specs.Fragments.{range_key, newest_first, keys_at, written, span_with, spans_between, FallsBy, FragmentsAreSpans}
 use Rattle.rk_fragment.proofs.Order.{lt, lt_itself, lt_trans}
 use Rattle.rk_model.proofs.Lists.{all_weaker}
 use Rattle.rk_fragment.proofs.Rising.{sorted_rises}
@@ -72,7 +71,7 @@ module _ (x : List ℕ) where
 -- spans between ends that rise, where the range keys at each of them fall
 module _ (keys : List ℕ → List RangeKey) (falling : (x : List ℕ) → are_newest_first (keys x) ≡ true) where
   -- each span is one
-  all_spans : (a : List ℕ) (ends : List (List ℕ)) → Rises (a ∷ ends) → list_all is_span (spans_between keys (a ∷ ends)) ≡ true
+  all_spans : (a : List ℕ) (ends : List (List ℕ)) → KeysRise (a ∷ ends) → list_all is_span (spans_between keys (a ∷ ends)) ≡ true
   all_spans a [] h = refl
   all_spans a (b ∷ bs) h = go (keys a) refl (all_spans b bs h.1)
     where
@@ -83,7 +82,7 @@ module _ (keys : List ℕ → List RangeKey) (falling : (x : List ℕ) → are_n
           rw (h.0.0, first, ih) refl
 
   -- none begins below the first end
-  none_before : (c a : List ℕ) (ends : List (List ℕ)) → Rises (a ∷ ends) → lt a c ≡ false → AllByRecursion (λ s. not (lt s.start c) ≡ true) (spans_between keys (a ∷ ends))
+  none_before : (c a : List ℕ) (ends : List (List ℕ)) → KeysRise (a ∷ ends) → lt a c ≡ false → AllByRecursion (λ s. not (lt s.start c) ≡ true) (spans_between keys (a ∷ ends))
   none_before c a [] h g = tt
   none_before c a (b ∷ bs) h g = go (keys a) (none_before c b bs h.1 (later (lt b c) refl))
     where
@@ -95,7 +94,7 @@ module _ (keys : List ℕ → List RangeKey) (falling : (x : List ℕ) → are_n
       go [] ih = ih
       go (k ∷ ks) ih = (ap not g, ih)
 
-  one_after_other : (a : List ℕ) (ends : List (List ℕ)) → Rises (a ∷ ends) → ascends (λ s t. not (lt t.start s.end)) (spans_between keys (a ∷ ends)) ≡ true
+  one_after_other : (a : List ℕ) (ends : List (List ℕ)) → KeysRise (a ∷ ends) → ascends (λ s t. not (lt t.start s.end)) (spans_between keys (a ∷ ends)) ≡ true
   one_after_other a [] h = refl
   one_after_other a (b ∷ bs) h = go (keys a) (one_after_other b bs h.1)
     where
@@ -105,7 +104,7 @@ module _ (keys : List ℕ → List RangeKey) (falling : (x : List ℕ) → are_n
           let span : Span = record { start = a; end = b; keys = k ∷ ks } in
           ascends_cons (λ s t. not (lt t.start s.end)) span (spans_between keys (b ∷ bs)) (none_before b b bs h.1 (lt_itself b)) ih
 
-  pub sound_between : (ends : List (List ℕ)) → Rises ends → are_spans (spans_between keys ends) ≡ true
+  pub sound_between : (ends : List (List ℕ)) → KeysRise ends → are_spans (spans_between keys ends) ≡ true
   sound_between [] h = refl
   sound_between (a ∷ ends) h = rw (all_spans a ends h, one_after_other a ends h) refl
 

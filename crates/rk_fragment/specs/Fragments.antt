@@ -2,7 +2,7 @@
 use Rattle.std.specs.Prelude.{◌≡◌, ◌≢◌, ℕ, nat_lt, IsTrue, List, [], ◌∷◌, filter, drop, if◌then◌else◌, Option, Some, None}
 use Rattle.std.specs.List.{AllByRecursion, filter_map, flat_map, zip}
 use Rattle.rk_model.specs.Lists.{none_of}
-use Rattle.rk_model.specs.Operations.{within}
+use Rattle.rk_model.specs.Operations.{within, NumbersDiffer}
 use Rattle.rk_model.specs.Covers.{over}
 use Rattle.rk_model.specs.Spans.{op_ends, sorted_keys}
 use Rattle.rk_model.specs.Sources.{are_spans}
@@ -64,11 +64,6 @@ FallsBy R (k ∷ ks) = AllByRecursion (λ q. R q.seq k.seq) ks × FallsBy R ks
 abbrev pub KeysDiffer : List RangeKey → Type 0
 KeysDiffer [] = Unit {0}
 KeysDiffer (k ∷ ks) = AllByRecursion (λ q. q.seq ≢ k.seq) ks × KeysDiffer ks
-
--- no two entries have one number
-abbrev pub NumbersDiffer : List Entry → Type 0
-NumbersDiffer [] = Unit {0}
-NumbersDiffer (e ∷ es) = AllByRecursion (λ f. f.seq ≢ e.seq) es × NumbersDiffer es
 
 -- where numbers differ, they are spans as a source holds them
 abbrev pub FragmentsAreSpans : Type 0

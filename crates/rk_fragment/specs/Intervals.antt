@@ -1,20 +1,13 @@
 -- Intervals that begin at written ends, each with its range keys.
-use Rattle.std.specs.Prelude.{◌≡◌, ℕ, true, List, [], ◌∷◌, map, if◌then◌else◌, Option, Some, None}
-use Rattle.std.specs.List.{AllByRecursion, cons_option}
+use Rattle.std.specs.Prelude.{ℕ, List, [], ◌∷◌, map, if◌then◌else◌}
+use Rattle.std.specs.List.{cons_option}
 use Rattle.std.specs.Option.{option_map_or}
-use Rattle.std.specs.Ordering.{is_lt}
-use Rattle.rk_key.specs.Keys.{key_cmp}
 use Rattle.rk_model.specs.Operations.{is_over}
 use Rattle.rk_model.specs.declared.op.Entry.{Entry}
 use Rattle.rk_model.specs.declared.span.RangeKey.{RangeKey}
 use Rattle.rk_model.specs.declared.span.Span.{Span}
 use Rattle.rk_fragment.specs.Fragments.{range_key, insert_newest, keys_at, span_with}
 use Rattle.rk_fragment.specs.declared.intervals.Interval.{Interval}
-
--- each key is below those after it
-abbrev pub Rises : List (List ℕ) → Type 0
-Rises [] = Unit {0}
-Rises (x ∷ xs) = AllByRecursion (λ y. is_lt (key_cmp x y) ≡ true) xs × Rises xs
 
 abbrev pub starts : List Interval → List (List ℕ)
 starts is = map (λ i. i.start) is
@@ -39,8 +32,3 @@ spans_from i (j ∷ js) = cons_option (span_with i.start j.start i.keys) (spans_
 abbrev pub spans_of : List Interval → List Span
 spans_of [] = []
 spans_of (i ∷ is) = spans_from i is
-
--- those that are still to come after an interval that is open, if one is
-abbrev pub spans_left : Option Interval → List Interval → List Span
-spans_left None is = spans_of is
-spans_left (Some i) is = spans_from i is

@@ -34,7 +34,7 @@ impl Fragmenter {
     ///
     /// # Errors
     ///
-    /// `NoMemory` where it finds no memory.
+    /// None: `NoMemory` is there for a body that takes some.
     pub fn new(alloc: Global) -> Result<Fragmenter, NoMemory>
         ensures { IfOk result (λ f. f ≡ []) }
     {

@@ -2,9 +2,10 @@
 ghost use Rattle.std.specs.Prelude.{◌≡◌, ◌≤◌, length, true, false, [], map, IfOk, OnOk};
 ghost use Rattle.std.specs.Ordering.{is_lt};
 ghost use Rattle.std.specs.List.Sorted.{IsPartitionPoint};
+ghost use Rattle.rk_model.specs.Spans.{KeysRise};
 ghost use Rattle.rk_key.specs.Keys.{key_cmp};
 ghost use Rattle.rk_fragment.specs.Fragments.{written};
-ghost use Rattle.rk_fragment.specs.Intervals.{Rises, starts, with_key, with_entry, interval_at};
+ghost use Rattle.rk_fragment.specs.Intervals.{starts, with_key, with_entry, interval_at};
 
 use crate::ends::written_ends;
 use crate::keys::{NewestFirst, range_key};
@@ -37,7 +38,7 @@ fn bare_intervals(alloc: Global, ends: BTreeSet<UserKey>) -> Result<Vec<Interval
 
 /// The place of the first interval that doesn't begin below the key.
 fn first_from(intervals: &[Interval], key: &UserKey) -> usize
-    requires { Rises (starts intervals.now) }
+    requires { KeysRise (starts intervals.now) }
     ensures bound { result ≤ length intervals.now }
     ensures point { IsPartitionPoint (λ i. is_lt (key_cmp i.start key.now) ≡ true) (λ i. is_lt (key_cmp i.start key.now) ≡ false) intervals.now result }
 {
@@ -56,7 +57,7 @@ fn insert_key(intervals: &mut [Interval], key: &RangeKey) -> Result<(), NoMemory
 
 /// Puts the range key of an entry into each interval that the entry is over.
 fn insert_entry(alloc: Global, intervals: &mut [Interval], entry: &Entry) -> Result<(), NoMemory>
-    requires { Rises (starts intervals.old) }
+    requires { KeysRise (starts intervals.old) }
     ensures { OnOk result (intervals.new ≡ map (with_entry entry.now) intervals.old) }
 {
     let Some((start, end)) = entry.op.ends() else {

@@ -76,12 +76,13 @@ impl UserKey {
 ///
 /// # Errors
 ///
-/// [`KeyError::BadKey`] exactly where the bytes are no key, and [`KeyError::Memory`] where there is no
-/// memory for them.
+/// [`KeyError::BadKey`] exactly where the bytes are no key, and [`KeyError::Memory`] where they are one and
+/// there is no memory for them.
 pub fn read_key(alloc: Global, bytes: &[u8]) -> Result<UserKey, KeyError>
     ensures ok { IfOk result (λ key. key ≡ bytes.now) }
     ensures is_key { OnOk result (IsKey bytes.now) }
     ensures refusal { IfErr result (IsRefusalOf IsKey Which.Key bytes.now) }
+    ensures memory { IfErr result (λ error. error ≡ KeyError.Memory → IsKey bytes.now) }
     ensures short { length bytes.now ≤ 32 → IfErr result (λ error. error ≢ KeyError.Memory) }
 {
     if let Some(at) = bad_key(bytes) {

@@ -11,7 +11,7 @@ use Rattle.std.proofs.lemmas.List.Folds.{list_any-append}
 use Rattle.std.proofs.lemmas.List.Elements.{recursion_from_All, filter-append, filter_map-append}
 use Rattle.rk_key.specs.Keys.{suffix_cmp}
 use Rattle.rk_model.specs.Operations.{is_over}
-use Rattle.rk_model.specs.Covers.{over, is_point, point, cover, standing, ends_set, insert_pair, by_suffix, newest, put_value}
+use Rattle.rk_model.specs.Covers.{over, is_point, point, cover, standing, ends_set, insert_pair, by_suffix, newest, put_value, cover_of}
 use Rattle.rk_model.specs.declared.op.Op.{Op}
 use Rattle.rk_model.specs.declared.op.Op.TheVariants.{Put, Del, RangeSet, RangeUnset, RangeDel}
 use Rattle.rk_model.specs.declared.op.Entry.{Entry}
@@ -20,7 +20,7 @@ use Rattle.rk_laws.specs.Newer.{with_entry, with_point, CoverAfterEntry, PointAf
 use Rattle.rk_model.proofs.Lists.{all_filter, all_pass, all_weaker, filter_none, any_none, kept_if, filter_map_kept, or_true}
 use Rattle.rk_laws.proofs.Order.{suffix_total}
 use Rattle.rk_laws.proofs.Pairs.{alike, by_suffix_last, by_suffix_filter}
-use Rattle.rk_laws.proofs.Plain.{cover_of, value_of}
+use Rattle.rk_laws.proofs.Plain.{value_of}
 
 -- a pair that an operation doesn't end
 abbrev unended : Op → SuffixValue → Bool

@@ -3,23 +3,21 @@ use Rattle.std.proofs.Common.{◌≡◌, ◌≢◌, ℕ, ◌<◌, ◌≤◌, Boo
 use Rattle.std.specs.List.{AllByRecursion, list_any, filter_map, cons_option}
 use Rattle.std.proofs.lemmas.Cmp.{eq_by_cmp_equiv}
 use Rattle.std.proofs.lemmas.Bool.{lt-ltb, ltb-false, cases_order, and_parts, and_from, not-true}
-use Rattle.std.proofs.lemmas.List.Kept.{AllPairs-filter}
 use Rattle.std.proofs.lemmas.List.Sorted.{Contains-permutation, IsPermutation-sym}
-use Rattle.rk_model.specs.Operations.{is_over}
-use Rattle.rk_model.specs.Covers.{over, is_point, standing, ends_set, insert_pair, by_suffix, newest, put_value, point}
+use Rattle.rk_model.proofs.Numbers.{same_number, some_differ}
+use Rattle.rk_model.specs.Operations.{is_over, NumbersDiffer}
+use Rattle.rk_model.specs.Covers.{over, is_point, standing, ends_set, insert_pair, by_suffix, newest, put_value, point, cover_of}
 use Rattle.rk_model.specs.declared.op.Op.{Op}
 use Rattle.rk_model.specs.declared.op.Op.TheVariants.{Put, Del, RangeSet, RangeUnset, RangeDel}
 use Rattle.rk_model.specs.declared.op.Entry.{Entry}
 use Rattle.rk_model.specs.declared.span.SuffixValue.{SuffixValue}
 use Rattle.rk_laws.specs.Prefixes.{spans_over, points_on}
-use Rattle.rk_laws.specs.KeptCells.{NumbersDiffer}
 use Rattle.rk_laws.specs.SameEntries.{without_ends, effects_over, SameElements, CoverOfEffects, PointOfElements, CellsInAnyOrder}
 use Rattle.rk_model.specs.Lists.{Among}
 use Rattle.rk_model.proofs.Members.{Ascending, among_all, all_among, among_filter, filter_among, among_map, map_among, among_contained, contains_among, any_from, any_gives, any_false, among_filter_map, filter_map_among, first_among, first_is, same_ascending, none_any}
 use Rattle.rk_laws.proofs.Order.{suffix_total, lt_itself, lt_back, lt_trans, apart}
 use Rattle.rk_laws.proofs.Pairs.{less, alike}
-use Rattle.rk_laws.proofs.Plain.{cover_of, is_span}
-use Rattle.rk_laws.proofs.Stripes.{pairs_head, pairs_tail, same_number}
+use Rattle.rk_laws.proofs.Plain.{is_span}
 use Rattle.rk_laws.proofs.Dropped.{ends_after}
 
 among_insert : (p a : SuffixValue) (l : List SuffixValue) → Among a (insert_pair p l) → (a ≡ p) ⊎ Among a l
@@ -111,7 +109,7 @@ sets_differ here e f p q m i d (stands a b g h) (stands u v j k) = go (alike p q
 
 suffixes_differ : (here l : List Entry) → ((e : Entry) → Among e l → Among e here) → NumbersDiffer l → SuffixesDiffer (filter_map (λ e. standing here e.seq e.op) l)
 suffixes_differ here [] within d = tt
-suffixes_differ here (e ∷ es) within d = go (standing here e.seq e.op) refl (suffixes_differ here es (λ f m. within f (inr m)) (pairs_tail (λ e f. e.seq ≢ f.seq) e es d))
+suffixes_differ here (e ∷ es) within d = go (standing here e.seq e.op) refl (suffixes_differ here es (λ f m. within f (inr m)) d.1)
   where
     g : Entry → Option SuffixValue
     g e = standing here e.seq e.op
@@ -123,7 +121,7 @@ suffixes_differ here (e ∷ es) within d = go (standing here e.seq e.op) refl (s
         other : (q : SuffixValue) → Among q (filter_map g es) → alike p q ≡ false
         other q m =
             let (f, k) = filter_map_among g es q m in
-            sets_differ here e f p q (within e (inl refl)) (within f (inr k.0)) (among_all (λ f. e.seq ≢ f.seq) es f (pairs_head (λ e f. e.seq ≢ f.seq) e es d) k.0) (stands_is here e.seq e.op p h) (stands_is here f.seq f.op q k.1)
+            sets_differ here e f p q (within e (inl refl)) (within f (inr k.0)) (λ q. among_all (λ f. f.seq ≢ e.seq) es f d.0 k.0 (sym q)) (stands_is here e.seq e.op p h) (stands_is here f.seq f.op q k.1)
 
 pub cover_of_ascends : (here : List Entry) → NumbersDiffer here → Ascending less (cover_of here)
 cover_of_ascends here d = by_suffix_ascends (filter_map (λ e. standing here e.seq e.op) here) (suffixes_differ here here (λ e m. m) d)
@@ -248,7 +246,7 @@ newest_same l m d d' to back = go (newest l) refl (newest m) refl
     go (Some e) h b k = sym (sym k ∙ newest_across l m d to back e h)
 
 points_differ : (x : List ℕ) (es : List Entry) → NumbersDiffer (over x es) → NumbersDiffer (points_on x es)
-points_differ x es d = AllPairs-filter (λ e f. e.seq ≢ f.seq) (λ e. is_point e.op) (over x es) d
+points_differ x es d = some_differ (λ e. is_point e.op) (over x es) d
 
 points_across : (es fs : List Entry) (x : List ℕ) → NumbersDiffer (over x es) → NumbersDiffer (over x fs) → ((e : Entry) → Among e (points_on x es) → Among e (points_on x fs)) → ((e : Entry) → Among e (points_on x fs) → Among e (points_on x es)) → point es x ≡ point fs x
 points_across es fs x d e to back = ap (option_and_then (λ e. put_value e.op)) (newest_same (points_on x es) (points_on x fs) (points_differ x es d) (points_differ x fs e) to back)

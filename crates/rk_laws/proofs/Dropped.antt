@@ -3,14 +3,13 @@ use Rattle.std.proofs.Common.{◌≡◌, ℕ, ◌<◌, ◌≤◌, Bool, true, fa
 use Rattle.std.specs.List.{list_any, filter_map, cons_option}
 use Rattle.std.proofs.lemmas.Bool.{ltb-true, ltb-false}
 use Rattle.std.proofs.lemmas.List.Elements.{filter-append, filter_map-append}
-use Rattle.rk_model.specs.Covers.{standing, ends_set, by_suffix}
+use Rattle.rk_model.specs.Covers.{standing, ends_set, by_suffix, cover_of}
 use Rattle.rk_model.specs.declared.op.Op.{Op}
 use Rattle.rk_model.specs.declared.op.Op.TheVariants.{Put, Del, RangeSet, RangeUnset, RangeDel}
 use Rattle.rk_model.specs.declared.op.Entry.{Entry}
 use Rattle.rk_model.specs.declared.span.SuffixValue.{SuffixValue}
 use Rattle.rk_model.specs.Lists.{Among}
 use Rattle.rk_model.proofs.Members.{among_append, among_left, among_right, among_filter, filter_among, any_gives, any_false}
-use Rattle.rk_laws.proofs.Plain.{cover_of}
 
 -- of the entries that pass a test, one with the greatest number, or that none passes
 pub data Latest (t : Entry → Bool) (l : List Entry) : Type 0 where

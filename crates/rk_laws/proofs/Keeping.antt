@@ -3,19 +3,20 @@ use Rattle.std.proofs.Common.{◌≡◌, ℕ, ◌<◌, ◌≤◌, Bool, true, fa
 use Rattle.std.specs.List.{All, list_any}
 use Rattle.std.proofs.lemmas.Bool.{lt-ltb, ltb-true, cases_order, and_parts, not-true}
 use Rattle.std.proofs.lemmas.List.Elements.{filter-append, recursion_from_All}
+use Rattle.rk_model.proofs.Numbers.{same_number}
 use Rattle.rk_model.specs.Lists.{first_of, Among}
-use Rattle.rk_model.specs.Operations.{is_over}
-use Rattle.rk_model.specs.Covers.{upto, over, is_point, newest, put_value, ends_set}
+use Rattle.rk_model.specs.Operations.{is_over, NumbersDiffer}
+use Rattle.rk_model.specs.Covers.{upto, over, is_point, newest, put_value, ends_set, cover_of}
 use Rattle.rk_model.specs.Kept.{cells, in_lowest, shadows, is_set}
 use Rattle.rk_model.specs.declared.op.Op.{Op}
 use Rattle.rk_model.specs.declared.op.Op.TheVariants.{Put, Del, RangeSet, RangeUnset, RangeDel}
 use Rattle.rk_model.specs.declared.op.Entry.{Entry}
 use Rattle.rk_model.specs.declared.span.SuffixValue.{SuffixValue}
-use Rattle.rk_laws.specs.KeptCells.{KeptGivesCells, NumbersDiffer, Newer, KeptAtBottomGivesCells}
+use Rattle.rk_laws.specs.KeptCells.{KeptGivesCells, Newer, KeptAtBottomGivesCells}
 use Rattle.rk_model.proofs.Lists.{filter_twice, filter_swap, filter_none}
 use Rattle.rk_model.proofs.Members.{among_contained, Ascending, among_all, all_among, among_append, among_left, among_right, filter_among, first_among, any_from, any_false}
-use Rattle.rk_laws.proofs.Plain.{cover_of, value_of}
-use Rattle.rk_laws.proofs.Stripes.{same_number, stripes_ascend, lowest_below}
+use Rattle.rk_laws.proofs.Plain.{value_of}
+use Rattle.rk_laws.proofs.Stripes.{stripes_ascend, lowest_below}
 use Rattle.rk_laws.proofs.Dropped.{Latest, none, some, latest, ends_after, SetsUnder, whole, less, less_within, less_or_dropped}
 use Rattle.rk_laws.proofs.Stays.{keeps, newest_in, newer_point, newest_of, stays, points_stay, ender_shadows, not_kept, point_shadows, why_dropped, Why, shadowed, lowest, shadow_seen, shadow_points}
 

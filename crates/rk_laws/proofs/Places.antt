@@ -5,14 +5,14 @@ use Rattle.std.proofs.lemmas.Bool.{and_parts}
 use Rattle.rk_key.specs.Keys.{key_cmp}
 use Rattle.rk_model.specs.Covers.{cover}
 use Rattle.rk_model.specs.Lists.{first_of, last_of, none_of, Among}
-use Rattle.rk_model.specs.Spans.{in_bounds, written_ends}
+use Rattle.rk_model.specs.Spans.{in_bounds, written_ends, KeysRise}
 use Rattle.rk_model.specs.Positions.{shown, put_key, begins_span, positions}
 use Rattle.rk_model.specs.Moves.{Move, First, Last, Next, Prev, SeekGe, SeekLt, at_or, least, greatest, raised, lowered, sought, moved}
 use Rattle.rk_model.specs.declared.op.Entry.{Entry}
 use Rattle.rk_model.specs.declared.options.IterOptions.{IterOptions}
 use Rattle.rk_model.specs.declared.cursor.Cursor.{Cursor}
 use Rattle.rk_model.specs.declared.cursor.Cursor.TheVariants.{Fresh, Start, At, End}
-use Rattle.rk_laws.specs.Neighbours.{RisesStrictly, PositionsRise, CursorWithinBounds}
+use Rattle.rk_laws.specs.Neighbours.{PositionsRise, CursorWithinBounds}
 use Rattle.rk_model.proofs.Members.{Ascending, among_append, filter_among, first_among}
 use Rattle.rk_model.proofs.SortedKeys.{sorted_among}
 use Rattle.rk_laws.proofs.Ends.{lt, sorted_ascends}
@@ -25,7 +25,7 @@ shown_puts es o = filter (λ x. in_bounds o x && is_some (shown es o x)) (flat_m
 abbrev pub span_ends : List Entry → IterOptions → List (List ℕ)
 span_ends es o = filter (λ x. in_bounds o x && begins_span es o x) (written_ends es o)
 
-rises : (l : List (List ℕ)) → Ascending lt l → RisesStrictly l
+rises : (l : List (List ℕ)) → Ascending lt l → KeysRise l
 rises [] h = tt
 rises (x ∷ xs) h = (h.0, rises xs h.1)
 

@@ -3,26 +3,21 @@ use Rattle.std.proofs.Common.{◌≡◌, ℕ, Bool, true, false, not, ◌&&◌, 
 use Rattle.std.specs.Ordering.{is_lt}
 use Rattle.std.specs.declared.cmp.Ordering.TheVariants.{Equal}
 use Rattle.std.specs.Option.{option_and_then}
-use Rattle.std.specs.List.{All, filter_map}
+use Rattle.std.specs.List.{All}
 use Rattle.std.proofs.lemmas.List.Elements.{recursion_from_All}
 use Rattle.rk_key.specs.Keys.{prefix, suffix, key_cmp}
 use Rattle.rk_model.specs.Operations.{within, is_over}
-use Rattle.rk_model.specs.Covers.{over, is_point, cover, standing, ends_set, by_suffix, newest, put_value}
+use Rattle.rk_model.specs.Covers.{over, is_point, cover, standing, ends_set, by_suffix, newest, put_value, cover_of}
 use Rattle.rk_model.specs.Spans.{op_ends}
 use Rattle.rk_model.specs.declared.op.Op.{Op}
 use Rattle.rk_model.specs.declared.op.Op.TheVariants.{Put, Del, RangeSet, RangeUnset, RangeDel}
 use Rattle.rk_model.specs.declared.op.Entry.{Entry}
-use Rattle.rk_model.specs.declared.span.SuffixValue.{SuffixValue}
 use Rattle.rk_laws.specs.Prefixes.{PlainEnds, spans_over, CoverOfSpans, CoverOfPrefix, SpansOverPrefix, PointOfItsOwn}
 use Rattle.rk_model.specs.Lists.{Among}
 use Rattle.rk_model.proofs.Members.{among_all, all_among, among_left, among_right, flat_map_among, filter_among}
 use Rattle.rk_laws.proofs.Ends.{lt}
 use Rattle.rk_model.proofs.Lists.{filter_none, any_filter, filter_map_filter, filter_map_same, filter_twice, filter_swap}
 use Rattle.rk_laws.proofs.Order.{lt_plain_prefix, key_total}
-
--- the pairs that a list of entries over a key gives
-abbrev pub cover_of : List Entry → List SuffixValue
-cover_of here = by_suffix (filter_map (λ e. standing here e.seq e.op) here)
 
 -- entries of spans
 abbrev pub is_span : Entry → Bool

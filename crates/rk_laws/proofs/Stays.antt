@@ -5,14 +5,13 @@ use Rattle.std.specs.List.{list_any}
 use Rattle.std.proofs.lemmas.Bool.{lt-ltb, ltb-true, leb-true, le-leb, and_parts, and_cases, not-true, not-false}
 use Rattle.rk_key.specs.Keys.{suffix_cmp}
 use Rattle.rk_model.specs.Lists.{first_of, Among}
-use Rattle.rk_model.specs.Covers.{upto, is_point, standing, ends_set, newest}
+use Rattle.rk_model.specs.Covers.{upto, is_point, standing, ends_set, newest, cover_of}
 use Rattle.rk_model.specs.Kept.{same_stripe, in_lowest, shadows, is_set}
 use Rattle.rk_model.specs.declared.op.Op.{Op}
 use Rattle.rk_model.specs.declared.op.Op.TheVariants.{Put, Del, RangeSet, RangeUnset, RangeDel}
 use Rattle.rk_model.specs.declared.op.Entry.{Entry}
 use Rattle.rk_model.proofs.Members.{Ascending, among_left, among_right, among_filter, filter_among, any_from, any_gives}
 use Rattle.rk_laws.proofs.Order.{suffix_total, eq_is}
-use Rattle.rk_laws.proofs.Plain.{cover_of}
 use Rattle.rk_laws.proofs.Stripes.{together}
 use Rattle.rk_laws.proofs.Dropped.{Latest, none, some, latest, any_less, ends_after, SetsUnder, standing_less, whole, less, less_within, less_or_dropped, cover_of_less, filter_less, filter_on}
 

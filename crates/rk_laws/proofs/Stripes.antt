@@ -1,13 +1,11 @@
 -- Stripes that rise, and the entries in one stripe.
-use Rattle.std.proofs.Common.{◌≡◌, ◌≢◌, ℕ, suc, ◌<◌, ◌≤◌, true, false, List, [], ◌∷◌, filter, Option, Some, None, refl, ap, sym, ◌∙◌, inl, inr, arith, nat_lt, nat_le, eqb}
+use Rattle.std.proofs.Common.{◌≡◌, ℕ, suc, ◌<◌, ◌≤◌, true, false, List, [], ◌∷◌, filter, Option, Some, None, refl, arith, nat_lt, nat_le, eqb}
 use Rattle.std.specs.Option.{option_map_or}
 use Rattle.std.specs.List.{AllPairs, AllByRecursion}
 use Rattle.std.specs.List.Sorted.{IsStrictlyIncreasing}
 use Rattle.std.proofs.lemmas.Bool.{lt-ltb, le-ltb, ltb-true, ltb-false, leb-true, le-leb, eqb-true, eq-eqb}
 use Rattle.std.proofs.lemmas.List.Kept.{AllPairs-from_increasing}
 use Rattle.std.proofs.lemmas.List.Elements.{recursion_from_All}
-use Rattle.rk_model.specs.declared.op.Entry.{Entry}
-use Rattle.rk_laws.specs.KeptCells.{NumbersDiffer}
 use Rattle.rk_model.specs.Kept.{stripe_of, same_stripe, in_lowest}
 use Rattle.rk_model.specs.Lists.{Among}
 use Rattle.rk_model.proofs.Members.{Ascending, all_among, among_all, among_filter, filter_among, first_among, first_least, ascending_filter}
@@ -17,14 +15,6 @@ pairs_head R x xs h = recursion_from_All (R x) xs (λ k d m. h 0 (suc k) d (omeg
 
 pub pairs_tail : {X : Type 0} (R : X → X → Type 0) (x : X) (xs : List X) → AllPairs R (x ∷ xs) → AllPairs R xs
 pairs_tail R x xs h i j d m n = h (suc i) (suc j) d (omega arith) (omega arith)
-
--- of entries with numbers that differ, one number is one entry
-pub same_number : (l : List Entry) (e f : Entry) → NumbersDiffer l → Among e l → Among f l → e.seq ≡ f.seq → e ≡ f
-same_number [] e f h m i s = absurd m
-same_number (x ∷ xs) e f h (inl p) (inl q) s = p ∙ sym q
-same_number (x ∷ xs) e f h (inl p) (inr i) s = absurd (among_all (λ g. x.seq ≢ g.seq) xs f (pairs_head (λ e f. e.seq ≢ f.seq) x xs h) i (sym (ap (λ (z : Entry). z.seq) p) ∙ s))
-same_number (x ∷ xs) e f h (inr m) (inl q) s = absurd (among_all (λ g. x.seq ≢ g.seq) xs e (pairs_head (λ e f. e.seq ≢ f.seq) x xs h) m (sym (ap (λ (z : Entry). z.seq) q) ∙ sym s))
-same_number (x ∷ xs) e f h (inr m) (inr i) s = same_number xs e f (pairs_tail (λ e f. e.seq ≢ f.seq) x xs h) m i s
 
 ascends : (stripes : List ℕ) → AllPairs (λ s t. s < t) stripes → Ascending nat_lt stripes
 ascends [] h = tt

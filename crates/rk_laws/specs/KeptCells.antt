@@ -1,7 +1,8 @@
 -- Laws of the entries that a flush or a compaction keeps, among any other entries.
-use Rattle.std.specs.Prelude.{◌≡◌, ◌≢◌, ℕ, ◌<◌, true, false, List, [], ◌++◌}
-use Rattle.std.specs.List.{All, AllPairs, Contains}
+use Rattle.std.specs.Prelude.{◌≡◌, ℕ, ◌<◌, true, false, List, [], ◌++◌}
+use Rattle.std.specs.List.{All, Contains}
 use Rattle.std.specs.List.Sorted.{IsStrictlyIncreasing}
+use Rattle.rk_model.specs.Operations.{NumbersDiffer}
 use Rattle.rk_model.specs.Covers.{over}
 use Rattle.rk_model.specs.Kept.{cells, kept}
 use Rattle.rk_model.specs.declared.op.Entry.{Entry}
@@ -10,10 +11,6 @@ use Rattle.rk_model.specs.declared.op.Entry.{Entry}
 abbrev pub KeptGivesCells : Type 0
 KeptGivesCells = (older es newer : List Entry) (stripes : List ℕ) (n : ℕ) (x : List ℕ) → IsStrictlyIncreasing stripes → Contains stripes n →
     cells (older ++ es ++ newer) n x ≡ cells (older ++ kept es stripes false x ++ newer) n x
-
--- no two entries have one number
-abbrev pub NumbersDiffer : List Entry → Type 0
-NumbersDiffer es = AllPairs (λ e f. e.seq ≢ f.seq) es
 
 -- the entries of the second list are all newer than those of the first
 abbrev pub Newer : List Entry → List Entry → Type 0

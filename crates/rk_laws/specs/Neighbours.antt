@@ -1,11 +1,11 @@
 -- Laws of one list of entries: where its widest spans begin and end, and where a cursor may be.
-use Rattle.std.specs.Prelude.{◌≡◌, ◌≢◌, ℕ, Bool, true, false, ◌&&◌, ◌⊎◌, List, [], ◌∷◌, Some}
-use Rattle.std.specs.List.{AllByRecursion, list_any}
+use Rattle.std.specs.Prelude.{◌≡◌, ◌≢◌, ℕ, Bool, true, false, ◌&&◌, ◌⊎◌, List, [], Some}
+use Rattle.std.specs.List.{list_any}
 use Rattle.std.specs.Ordering.{is_lt}
 use Rattle.rk_key.specs.Keys.{key_cmp}
 use Rattle.rk_model.specs.Operations.{within}
 use Rattle.rk_model.specs.Covers.{cover}
-use Rattle.rk_model.specs.Spans.{in_bounds, written_ends, WidestSpan, widest_span}
+use Rattle.rk_model.specs.Spans.{in_bounds, written_ends, WidestSpan, widest_span, KeysRise}
 use Rattle.rk_model.specs.Positions.{positions}
 use Rattle.rk_model.specs.Moves.{Move, moved}
 use Rattle.rk_model.specs.declared.op.Entry.{Entry}
@@ -41,13 +41,8 @@ abbrev pub BeforeSpanDiffers : Type 0
 BeforeSpanDiffers = (es : List Entry) (o : IterOptions) (x y : List ℕ) (s : WidestSpan) → in_bounds o x ≡ true → widest_span es o x ≡ Some s →
     in_bounds o y ≡ true → is_lt (key_cmp y s.start) ≡ true → list_any (is_between y s.start) (written_ends es o) ≡ false → cover es y ≢ s.cover
 
--- each key is below those after it
-abbrev pub RisesStrictly : List (List ℕ) → Type 0
-RisesStrictly [] = Unit {0}
-RisesStrictly (x ∷ xs) = AllByRecursion (λ y. is_lt (key_cmp x y) ≡ true) xs × RisesStrictly xs
-
 abbrev pub PositionsRise : Type 0
-PositionsRise = (es : List Entry) (o : IterOptions) → RisesStrictly (positions es o)
+PositionsRise = (es : List Entry) (o : IterOptions) → KeysRise (positions es o)
 
 abbrev pub CursorWithinBounds : Type 0
 CursorWithinBounds = (es : List Entry) (o : IterOptions) (c : Cursor) (move : Move) (x : List ℕ) → moved es o c move ≡ At x → in_bounds o x ≡ true

@@ -1,11 +1,11 @@
 -- Laws of two lists of entries with the same entries over a key, in any order and cut in any way.
 use Rattle.std.specs.Prelude.{◌≡◌, ◌↔◌, ℕ, List, [], map, Contains, IsPermutation}
+use Rattle.rk_model.specs.Operations.{NumbersDiffer}
 use Rattle.rk_model.specs.Covers.{over, point, cover}
 use Rattle.rk_model.specs.declared.op.Op.{Op}
 use Rattle.rk_model.specs.declared.op.Op.TheVariants.{Put, Del, RangeSet, RangeUnset, RangeDel}
 use Rattle.rk_model.specs.declared.op.Entry.{Entry}
 use Rattle.rk_laws.specs.Prefixes.{spans_over, points_on}
-use Rattle.rk_laws.specs.KeptCells.{NumbersDiffer}
 
 -- an operation without where it begins and ends
 abbrev pub without_ends : Op → Op

@@ -1,13 +1,10 @@
 // One more entry over a key, newer than those before it.
 ghost use Rattle.std.specs.Prelude.{◌≡◌, ◌<◌, ◌≤◌, OnOk, OnErr, vec_len, vec_capacity};
-ghost use Rattle.std.specs.List.{position};
-ghost use Rattle.std.specs.Ordering.{is_lt};
-ghost use Rattle.rk_key.specs.Keys.{suffix_cmp};
 ghost use Rattle.rk_model.specs.Covers.{insert_pair};
 ghost use Rattle.rk_laws.specs.Newer.{without, with_entry, CoverAfterEntry, PointAfterEntry};
 
 use rk_key::Suffix;
-use rk_model::{Op, SuffixValue};
+use rk_model::{Op, SuffixValue, first_greater};
 use rk_outside::NoMemory;
 
 /// The cover after one more entry, numbered above those over the key, is that of the entry and of the cover
@@ -65,11 +62,4 @@ fn insert(pairs: &mut Vec<SuffixValue>, pair: SuffixValue)
 {
     let at = first_greater(pairs, &pair).unwrap_or(pairs.len());
     pairs.insert(at, pair).unwrap();
-}
-
-/// The place of the first pair with a greater suffix.
-fn first_greater(pairs: &[SuffixValue], pair: &SuffixValue) -> Option<usize>
-    ensures { result ≡ position (λ q. is_lt (suffix_cmp pair.now.suffix q.suffix)) pairs.now }
-{
-    pairs.iter().position(|q| pair.suffix < q.suffix)
 }

@@ -79,12 +79,3 @@ Step m (Close name) reply m' = (it : Open)
     × (named name m.iterators ≡ Some it)
     × (reply ≡ Closed)
     × (m' ≡ record m { iterators = without_named name m.iterators })
-
--- a run: the states in between stand beside the events and replies
-abbrev pub Run : State → List Event → List Reply → List State → Type 0
-Run m [] [] [] = Unit {0}
-Run m [] [] (s ∷ ss) = ⊥
-Run m [] (r ∷ rs) ss = ⊥
-Run m (e ∷ es) [] ss = ⊥
-Run m (e ∷ es) (r ∷ rs) [] = ⊥
-Run m (e ∷ es) (r ∷ rs) (s ∷ ss) = Step m e r s × Run s es rs ss

@@ -1,7 +1,7 @@
 -- Worked examples: which points a mask hides under the pair `@5=x`. Each is computed.
 use Rattle.std.proofs.Common.{◌≡◌, List, [], ◌∷◌, true, false, refl}
 use Rattle.std.specs.Prelude.{codes}
-use Rattle.rk_mask.specs.Masks.{masks}
+use Rattle.rk_model.specs.Positions.{masks}
 use Rattle.rk_model.specs.declared.span.SuffixValue.{SuffixValue}
 
 abbrev five_x : List SuffixValue

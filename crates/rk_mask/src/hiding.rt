@@ -1,8 +1,7 @@
 ghost use Rattle.std.specs.Prelude.{◌≡◌};
 ghost use Rattle.std.specs.List.{list_any};
 ghost use Rattle.rk_key.specs.Keys.{IsSuffix};
-ghost use Rattle.rk_model.specs.Positions.{hides};
-ghost use Rattle.rk_mask.specs.Masks.{masks};
+ghost use Rattle.rk_model.specs.Positions.{hides, masks};
 
 use rk_key::{Suffix, UserKey, compare_suffixes};
 use rk_model::SuffixValue;

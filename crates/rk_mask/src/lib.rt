@@ -9,10 +9,8 @@
 #![tactic(auto)]
 
 mod hiding;
-mod laws;
 
 pub use hiding::masks;
-pub use laws::a_point_is_hidden_where_the_cover_masks_it;
 
 #[cfg(test)]
 mod tests;

@@ -1,15 +1,15 @@
 -- Entries by their numbers.
-use Rattle.std.proofs.Common.{◌≡◌, ◌≢◌, ℕ, ◌+◌, ◌<◌, ◌≤◌, Bool, true, false, cond, eqb, List, [], ◌∷◌, filter, refl, arith}
+use Rattle.std.proofs.Common.{◌≡◌, ◌≢◌, ℕ, ◌+◌, ◌<◌, ◌≤◌, Bool, true, false, cond, eqb, List, [], ◌∷◌, refl, arith}
 use Rattle.std.specs.Prelude.{nat_lt}
 use Rattle.std.specs.List.{AllByRecursion, sum_by}
 use Rattle.std.proofs.lemmas.List.Sums.{sum_by-cons}
 use Rattle.std.proofs.lemmas.Bool.{and_parts}
 use Rattle.std.proofs.lemmas.Bool.Decides.{nat_tests}
+use Rattle.rk_model.specs.Operations.{NumbersDiffer}
 use Rattle.rk_model.specs.Sources.{ascends}
 use Rattle.rk_model.specs.declared.op.Entry.{Entry}
-use Rattle.rk_fragment.specs.Fragments.{NumbersDiffer}
 use Rattle.rk_fragment.proofs.Falling.{lt_is}
-use Rattle.rk_model.proofs.Lists.{all_filter, all_weaker}
+use Rattle.rk_model.proofs.Lists.{all_weaker}
 use Rattle.rk_mem.specs.Chunks.{NumbersRise}
 
 -- those after an entry have greater numbers
@@ -28,14 +28,6 @@ pub rising_differ : (es : List Entry) → NumbersRise es → NumbersDiffer es
 rising_differ [] h = tt
 rising_differ (e ∷ es) h =
     (all_weaker (λ f. e.seq < f.seq) (λ f. f.seq ≢ e.seq) (λ f less. omega arith) es (later e es h), rising_differ es (rise_on e es h))
-
-pub some_differ : (t : Entry → Bool) (es : List Entry) → NumbersDiffer es → NumbersDiffer (filter t es)
-some_differ t [] h = tt
-some_differ t (e ∷ es) h = go (t e) (some_differ t es h.1)
-  where
-    go : (b : Bool) → NumbersDiffer (filter t es) → NumbersDiffer (cond b (e ∷ filter t es) (filter t es))
-    go true ih = (all_filter t (λ f. f.seq ≢ e.seq) es h.0, ih)
-    go false ih = ih
 
 -- how many have a number
 abbrev pub has_number : ℕ → Entry → ℕ

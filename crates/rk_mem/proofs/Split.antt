@@ -8,7 +8,8 @@ use Rattle.std.proofs.lemmas.Bool.{and_parts, not-true}
 use Rattle.std.proofs.lemmas.List.{append-nil}
 use Rattle.std.proofs.lemmas.List.Elements.{filter-append}
 use Rattle.std.proofs.lemmas.List.Sorted.{IsPermutation-refl, IsPermutation-trans, IsPermutation-append, IsPermutation-filter_both}
-use Rattle.rk_model.specs.Operations.{is_over}
+use Rattle.rk_model.proofs.Numbers.{some_differ}
+use Rattle.rk_model.specs.Operations.{is_over, NumbersDiffer}
 use Rattle.rk_model.specs.Covers.{is_point, over}
 use Rattle.rk_model.specs.Spans.{op_ends, sorted_keys}
 use Rattle.rk_model.specs.Sources.{ascends, entry_cmp, are_points, are_spans, sound_spans}
@@ -16,12 +17,12 @@ use Rattle.rk_model.specs.declared.op.Op.{Op}
 use Rattle.rk_model.specs.declared.op.Op.TheVariants.{Put, Del, RangeSet, RangeUnset, RangeDel}
 use Rattle.rk_model.specs.declared.op.Entry.{Entry}
 use Rattle.rk_model.specs.declared.span.RangeKey.{RangeKey}
-use Rattle.rk_fragment.specs.Fragments.{range_key, newest_first, span_with, fragments, NumbersDiffer}
+use Rattle.rk_fragment.specs.Fragments.{range_key, newest_first, span_with, fragments}
 use Rattle.rk_model.proofs.Lists.{all_weaker, all_pass, filter_all, filter_none}
 use Rattle.rk_fragment.proofs.Sound.{sound}
 use Rattle.rk_mem.specs.Chunks.{points_of, ranges_of, NumbersRise, IsChunkOf}
 use Rattle.rk_mem.specs.SortedOut.{AreSortedOut}
-use Rattle.rk_mem.proofs.Numbers.{some_differ, rising_differ}
+use Rattle.rk_mem.proofs.Numbers.{rising_differ}
 
 all_true : {X : Type 0} (t : X → Bool) (xs : List X) → list_all t xs ≡ true → AllByRecursion (λ x. t x ≡ true) xs
 all_true t [] h = tt

@@ -1,10 +1,10 @@
 -- What each chunk keeps of its two lists.
 use Rattle.std.specs.Prelude.{◌≡◌, false, List, IsTrue}
 use Rattle.std.specs.List.{AllByRecursion}
+use Rattle.rk_model.specs.Operations.{NumbersDiffer}
 use Rattle.rk_model.specs.Covers.{is_point}
 use Rattle.rk_model.specs.Sources.{are_points}
 use Rattle.rk_model.specs.declared.op.Entry.{Entry}
-use Rattle.rk_fragment.specs.Fragments.{NumbersDiffer}
 
 -- points in order, and range entries whose numbers differ
 pub record AreSortedOut (points ranges : List Entry) : Type 0 where

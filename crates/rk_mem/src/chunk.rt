@@ -1,7 +1,8 @@
 // Chunks, which never change.
 ghost use Rattle.std.specs.Prelude.{◌≡◌, IfOk, IsTrue};
+ghost use Rattle.rk_model.specs.Operations.{NumbersDiffer};
 ghost use Rattle.rk_model.specs.Sources.{are_points};
-ghost use Rattle.rk_fragment.specs.Fragments.{NumbersDiffer, fragments};
+ghost use Rattle.rk_fragment.specs.Fragments.{fragments};
 ghost use Rattle.rk_mem.specs.Chunks.{NumbersRise, points_of, ranges_of, IsChunkOf};
 
 use crate::order::{copy_points, copy_ranges, sort};

@@ -44,7 +44,7 @@ impl Memtable {
     ///
     /// # Errors
     ///
-    /// `NoMemory` where it finds no memory.
+    /// None: `NoMemory` is there for a body that takes some.
     pub fn new(alloc: Global) -> Result<Memtable, NoMemory>
         ensures { IfOk result (λ m. m ≡ nothing) }
     {

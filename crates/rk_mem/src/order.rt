@@ -1,31 +1,13 @@
 // Points and range entries apart, and points in order.
 ghost use Rattle.std.specs.Prelude.{◌≡◌, IfOk, OnOk, IsTrue};
 ghost use Rattle.std.specs.List.Sorted.{IsPermutation};
-ghost use Rattle.rk_model.specs.Covers.{is_point};
-ghost use Rattle.rk_model.specs.Sources.{entry_cmp, are_points};
-ghost use Rattle.rk_fragment.specs.Fragments.{NumbersDiffer};
+ghost use Rattle.rk_model.specs.Operations.{NumbersDiffer};
+ghost use Rattle.rk_model.specs.Sources.{are_points};
 ghost use Rattle.rk_mem.specs.Chunks.{points_of, ranges_of};
 
-use rk_model::{Entry, Op};
+use rk_model::{Entry, compare_entries};
 use rk_outside::NoMemory;
 use std::alloc::Global;
-use std::cmp::Ordering;
-
-fn is_point(op: &Op) -> bool
-    ensures { result ≡ is_point op.now }
-{
-    matches!(op, Op::Put { .. } | Op::Del { .. })
-}
-
-/// By key, and the newer one of one key first.
-fn compare(e: &Entry, f: &Entry) -> Ordering
-    ensures { result ≡ entry_cmp e.now f.now }
-{
-    match e.op.key().cmp(f.op.key()) {
-        Ordering::Equal => f.seq.cmp(&e.seq),
-        unequal => unequal,
-    }
-}
 
 /// Copies of the points.
 pub(crate) fn copy_points(alloc: Global, entries: &[Entry]) -> Result<Vec<Entry>, NoMemory>
@@ -33,7 +15,7 @@ pub(crate) fn copy_points(alloc: Global, entries: &[Entry]) -> Result<Vec<Entry>
 {
     let mut points = Vec::new(alloc);
     for entry in entries {
-        if is_point(&entry.op) {
+        if entry.op.is_point() {
             points.push(entry.copy()?)?;
         }
     }
@@ -46,7 +28,7 @@ pub(crate) fn copy_ranges(alloc: Global, entries: &[Entry]) -> Result<Vec<Entry>
 {
     let mut ranges = Vec::new(alloc);
     for entry in entries {
-        if !is_point(&entry.op) {
+        if !entry.op.is_point() {
             ranges.push(entry.copy()?)?;
         }
     }
@@ -60,6 +42,6 @@ pub(crate) fn sort(points: &mut Vec<Entry>) -> Result<(), NoMemory>
     ensures same { IsPermutation points.old.items points.new.items }
     ensures in_order { OnOk result (IsTrue (are_points points.new.items)) }
 {
-    points.sort_by(|e, f| compare(e, f))?;
+    points.sort_by(|e, f| compare_entries(e, f))?;
     Ok(())
 }

@@ -34,11 +34,11 @@ impl Model for ChunkPoints {
 }
 
 impl ChunkPoints {
-    /// A source of the points of this chunk, at no place.
+    /// A source of the points of this chunk, at no place. It takes no memory.
     ///
     /// # Errors
     ///
-    /// `NoMemory` where it finds no memory.
+    /// None: `NoMemory` is there for a body that takes some.
     pub fn new(_: Global, chunk: Arc<Chunk>) -> Result<ChunkPoints, NoMemory>
         ensures value { IfOk result (λ s. s ≡ record { items = points_of (arc_value chunk); place = None }) }
         ensures told { IfOk result (λ s. sound_points s.items ≡ Some (points_of (arc_value chunk))) }

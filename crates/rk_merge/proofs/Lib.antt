@@ -5,3 +5,4 @@ pub mod Unions
 pub mod Merged
 pub mod Totals
 pub mod Loops
+pub mod Costs

@@ -2,11 +2,11 @@
 use Rattle.std.proofs.Common.{◌≡◌, ℕ, ◌+◌, ◌<◌, ◌≤◌, length, get_or, set, take, List, Option, None, Result, Ok, Err, arith}
 use Rattle.std.specs.Result.{IsErrAnd}
 use Rattle.rk_outside.specs.declared.error.SourceError.{SourceError}
-use Rattle.rk_model.specs.Sources.{Seen}
+use Rattle.rk_model.specs.Sources.{Seen, may_name}
 use Rattle.rk_model.specs.Runs.{at_rest, Runs}
 use Rattle.rk_model.proofs.Runs.{Ran, ran_from, ran_ran, ran_refused}
-use Rattle.rk_merge.specs.Several.{total, all_rest}
-use Rattle.rk_merge.proofs.Several.{rest_length, done_more, left_more, runs_set}
+use Rattle.rk_merge.specs.Several.{total, all_rest, names_of}
+use Rattle.rk_merge.proofs.Several.{rest_length, done_more, left_more, runs_set, names_rest}
 use Rattle.rk_merge.proofs.Totals.{total_step}
 
 -- The first of them have made theirs, and the others are as they were.
@@ -22,7 +22,7 @@ module _ {S A B : Type 0} (seen : S → Seen A) (held : List S → Option B) (re
       rw (was.left i e (omega arith)) (total_step most olds i e (omega (arith, same)))
 
   pub one_passed : {T : Type 0} (f f' f'' r r' r'' : ℕ) (x : T) → i < length nows → Passes seen P most olds nows i f f' r r' → P (get_or nows i e) v
-      → Runs (at_rest (seen (get_or nows i e))) (at_rest (seen v)) (seen (get_or nows i e)).held f' f'' r' r'' (most (get_or nows i e)) (Ok x) → Passes seen P most olds (set nows i v) (i + 1) f f'' r r''
+      → Runs (at_rest (seen (get_or nows i e))) (at_rest (seen v)) (may_name (seen (get_or nows i e))) f' f'' r' r'' (most (get_or nows i e)) (Ok x) → Passes seen P most olds (set nows i v) (i + 1) f f'' r r''
   one_passed f f' f'' r r' r'' x within was now runs =
       let sum = here f f' r r' within was in
       record {
@@ -33,9 +33,9 @@ module _ {S A B : Type 0} (seen : S → Seen A) (held : List S → Option B) (re
       }
 
   pub one_refused : {T U : Type 0} (f f' f'' r r' r'' : ℕ) (error : SourceError) (given : Result U SourceError) → i < length nows → Passes seen P most olds nows i f f' r r'
-      → Runs {T = T} (at_rest (seen (get_or nows i e))) (at_rest (seen v)) (seen (get_or nows i e)).held f' f'' r' r'' (most (get_or nows i e)) (Err error) → IsErrAnd given (λ d. d ≡ error)
-      → Runs (all_rest seen olds) (all_rest seen (set nows i v)) (held olds) f f'' r r'' (total most olds) given
+      → Runs {T = T} (at_rest (seen (get_or nows i e))) (at_rest (seen v)) (may_name (seen (get_or nows i e))) f' f'' r' r'' (most (get_or nows i e)) (Err error) → IsErrAnd given (λ d. d ≡ error)
+      → Runs (all_rest seen olds) (all_rest seen (set nows i v)) (names_of seen (held olds) olds) f f'' r r'' (total most olds) given
   one_refused f f' f'' r r' r'' error given within was runs q =
       let sum = here f f' r r' within was in
-      ran_refused (all_rest seen olds) (all_rest seen nows) (all_rest seen (set nows i v)) _ _ _ _ _ _ _ _ _ _ _ error given (rest nows olds was.ran.same) (omega (arith, sum.1)) was.ran
+      ran_refused (all_rest seen olds) (all_rest seen nows) (all_rest seen (set nows i v)) _ _ _ _ _ _ _ _ _ _ _ error given (names_rest seen (held nows) (held olds) nows olds (rest nows olds was.ran.same) was.ran.same) (omega (arith, sum.1)) was.ran
       (runs_set seen (held nows) nows i v e _ _ _ _ _ _ within (untold nows i e within) runs) q

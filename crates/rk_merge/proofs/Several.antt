@@ -1,13 +1,14 @@
 -- Several sources together: what no call changes of them, and sums over them.
-use Rattle.std.proofs.Common.{◌≡◌, ℕ, zero, suc, ◌+◌, ◌<◌, ◌≤◌, length, get_or, set, Bool, true, false, ◌&&◌, List, [], ◌∷◌, Option, Some, None, is_some, Result, Ok, Err, IfErr, refl, ap, sym, ◌∙◌, arith, ◌≢◌, ◌⊎◌, inl, inr, get_or-set_same, get_or-set_other}
+use Rattle.std.proofs.Common.{◌≡◌, ℕ, zero, suc, ◌+◌, ◌<◌, ◌≤◌, length, get_or, set, Bool, true, false, ◌&&◌, ◌||◌, not, List, [], ◌∷◌, Option, Some, None, is_some, Result, Ok, Err, IfErr, refl, ap, sym, ◌∙◌, arith, ◌≢◌, ◌⊎◌, inl, inr, get_or-set_same, get_or-set_other}
 use Rattle.std.proofs.lemmas.Bool.{cases_eq}
+use mathlib.Core.Path.{fun_ext}
 use Rattle.std.specs.List.{list_all}
 use Rattle.rk_outside.specs.Causes.{IsSourceRefusal}
 use Rattle.rk_outside.specs.declared.error.SourceError.{SourceError}
 use Rattle.rk_outside.specs.declared.error.SourceError.TheVariants.{Memory, ReadFault, BadTable}
-use Rattle.rk_model.specs.Sources.{Seen}
+use Rattle.rk_model.specs.Sources.{Seen, may_name}
 use Rattle.rk_model.specs.Runs.{at_rest, Runs}
-use Rattle.rk_merge.specs.Several.{total, all_rest}
+use Rattle.rk_merge.specs.Several.{total, all_rest, any_names, names_of}
 
 module _ {S A : Type 0} (seen : S → Seen A) where
   pub rest_set : (ss : List S) (k : ℕ) (v d : S) → k < length ss → at_rest (seen v) ≡ at_rest (seen (get_or ss k d)) → all_rest seen (set ss k v) ≡ all_rest seen ss
@@ -54,24 +55,46 @@ module _ {S A : Type 0} (seen : S → Seen A) where
       and_no true = refl
       and_no false = refl
 
+  any_rest : (ss : List S) (file at : ℕ) → any_names seen ss file at ≡ any_names (λ r. r) (all_rest seen ss) file at
+  any_rest [] file at = refl
+  any_rest (s ∷ ss) file at = ap (λ b. may_name (seen s) file at || b) (any_rest ss file at)
+
+  pub rest_any : (xs ys : List S) → all_rest seen xs ≡ all_rest seen ys → any_names seen xs ≡ any_names seen ys
+  rest_any xs ys e = fun_ext (λ file. fun_ext (λ at. any_rest xs file at ∙ ap (λ rs. any_names (λ r. r) rs file at) e ∙ sym (any_rest ys file at)))
+
+  pub names_rest : {B : Type 0} (h h' : Option B) (xs ys : List S) → h ≡ h' → all_rest seen xs ≡ all_rest seen ys → names_of seen h xs ≡ names_of seen h' ys
+  names_rest h h' xs ys p e = ap (λ u. names_of seen u xs) p ∙ ap (λ (names : ℕ → ℕ → Bool). λ file at. not (is_some h') && names file at) (rest_any xs ys e)
+
+  one_names : (ss : List S) (k : ℕ) (d : S) (file at : ℕ) → k < length ss → may_name (seen (get_or ss k d)) file at ≡ true → any_names seen ss file at ≡ true
+  one_names [] k d file at h e = absurd (omega arith)
+  one_names (s ∷ ss) zero d file at h e = rw e refl
+  one_names (s ∷ ss) (suc k) d file at h e = rw (one_names ss k d file at (omega arith) e) (or_yes (may_name (seen s) file at))
+    where
+      or_yes : (b : Bool) → b || true ≡ true
+      or_yes true = refl
+      or_yes false = refl
+
   -- the call of one source, seen from all, of which something is held where each of them is told
   pub runs_set : {T B : Type 0} (held : Option B) (ss : List S) (k : ℕ) (v d : S) (f f' r r' m : ℕ) (result : Result T SourceError) → k < length ss → ((seen (get_or ss k d)).held ≡ None → held ≡ None)
-      → Runs (at_rest (seen (get_or ss k d))) (at_rest (seen v)) (seen (get_or ss k d)).held f f' r r' m result → Runs (all_rest seen ss) (all_rest seen (set ss k v)) held f f' r r' m result
+      → Runs (at_rest (seen (get_or ss k d))) (at_rest (seen v)) (may_name (seen (get_or ss k d))) f f' r r' m result → Runs (all_rest seen ss) (all_rest seen (set ss k v)) (names_of seen held ss) f f' r r' m result
   runs_set {T} {B} held ss k v d f f' r r' m result h none runs =
       let later = runs.cause.later in
       let kept = runs.cause.kept in
-      let up = failed result (seen (get_or ss k d)).held none runs.cause.failed in
+      let up = failed result runs.cause.failed in
       record { same = rest_set ss k v d h runs.same; cause = record { later = later; failed = up; kept = kept }; reads = runs.reads }
     where
-      refusal : (one : Option (List A)) → (one ≡ None → held ≡ None) → (e : SourceError) → IsSourceRefusal one f f' e → IsSourceRefusal held f f' e
-      refusal one none Memory w = w
-      refusal one none (ReadFault n) w = w
-      refusal None none (BadTable file at) w = rw (none refl) w
-      refusal (Some es) none (BadTable file at) w = absurd w
+      untold_by : (one : Option (List A)) (b : Bool) → not (is_some one) && b ≡ true → one ≡ None
+      untold_by None b e = refl
+      untold_by (Some es) b e = cc
 
-      failed : (result : Result T SourceError) (one : Option (List A)) → (one ≡ None → held ≡ None) → IfErr result (IsSourceRefusal one f f') → IfErr result (IsSourceRefusal held f f')
-      failed (Ok x) one none w = tt
-      failed (Err e) one none w = refusal one none e w
+      refusal : (e : SourceError) → IsSourceRefusal (may_name (seen (get_or ss k d))) f f' e → IsSourceRefusal (names_of seen held ss) f f' e
+      refusal Memory w = w
+      refusal (ReadFault n) w = w
+      refusal (BadTable file at) w = (rw (none (untold_by (seen (get_or ss k d)).held _ w.0), one_names ss k d file at h w.0) refl, w.1)
+
+      failed : (result : Result T SourceError) → IfErr result (IsSourceRefusal (may_name (seen (get_or ss k d))) f f') → IfErr result (IsSourceRefusal (names_of seen held ss) f f')
+      failed (Ok x) w = tt
+      failed (Err e) w = refusal e w
 
 pub any_default : {S : Type 0} (ss : List S) (k : ℕ) (d e : S) → k < length ss → get_or ss k d ≡ get_or ss k e
 any_default [] k d e h = absurd (omega arith)

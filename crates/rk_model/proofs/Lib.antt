@@ -17,3 +17,4 @@ pub mod Spans
 pub mod Spendings
 pub mod Sums
 pub mod Walks
+pub mod Numbers

@@ -53,10 +53,13 @@ is_set (RangeSet start end suffix value) = true
 is_set (RangeUnset start end suffix) = false
 is_set (RangeDel start end) = false
 
--- Of the entries over the key: without those that a newer one of their stripe shadows. At the bottom the
--- lowest stripe keeps sets alone.
+-- Whether an entry is kept among entries that are all over one key: no newer one of its stripe shadows it, and at
+-- the bottom the lowest stripe keeps puts and sets alone.
+abbrev pub is_kept : List Entry → List ℕ → Bool → Entry → Bool
+is_kept here stripes bottom e =
+    not (list_any (λ f. nat_lt e.seq f.seq && same_stripe stripes e.seq f.seq && shadows f.op e.op) here)
+    && not (bottom && in_lowest stripes e.seq && not (is_set e.op))
+
+-- those that are kept of the entries over the key
 abbrev pub kept : List Entry → List ℕ → Bool → List ℕ → List Entry
-kept es stripes bottom x =
-    let here = over x es in
-    filter (λ e. not (list_any (λ f. nat_lt e.seq f.seq && same_stripe stripes e.seq f.seq && shadows f.op e.op) here)
-    && not (bottom && in_lowest stripes e.seq && not (is_set e.op))) here
+kept es stripes bottom x = let here = over x es in filter (is_kept here stripes bottom) here

@@ -18,9 +18,12 @@ abbrev pub hides : List ℕ → List ℕ → SuffixValue → Bool
 hides m p r = not (is_lt (suffix_cmp r.suffix m)) && is_lt (suffix_cmp r.suffix p)
 
 -- a mask that isn't empty hides a point with a suffix under a pair between the two
+abbrev pub masks : List SuffixValue → List ℕ → List ℕ → Bool
+masks pairs m x = not (none_of m) && not (none_of (suffix x)) && list_any (hides m (suffix x)) pairs
+
+-- the pairs are those of the key's cover
 abbrev pub is_masked : List Entry → IterOptions → List ℕ → Bool
-is_masked es o x =
-    option_map_or (λ m. not (none_of m) && not (none_of (suffix x)) && list_any (hides m (suffix x)) (cover es x)) o.mask false
+is_masked es o x = option_map_or (λ m. masks (cover es x) m x) o.mask false
 
 abbrev pub shown : List Entry → IterOptions → List ℕ → Option (List ℕ)
 shown es o x = if is_masked es o x then None else point es x

@@ -20,11 +20,12 @@ in_memory-bounded count held None = record { seek = λ key. omega arith; next = 
 in_memory-bounded count held (Some i) = record { seek = λ key. omega arith; next = omega arith; prev = omega arith }
 
 pub Same-refl : {A : Type 0} (s : Seen A) → Same s s
-Same-refl s = record { held_is = refl; count_is = refl; seek_is = refl; most_is = refl; step_is = refl; turn_is = refl }
+Same-refl s = record { held_is = refl; bad_is = refl; count_is = refl; seek_is = refl; most_is = refl; step_is = refl; turn_is = refl }
 
 pub Same-trans : {A : Type 0} {s t u : Seen A} → Same s t → Same t u → Same s u
 Same-trans one two = record {
   held_is = two.held_is ∙ one.held_is;
+  bad_is = two.bad_is ∙ one.bad_is;
   count_is = two.count_is ∙ one.count_is;
   seek_is = two.seek_is ∙ one.seek_is;
   most_is = two.most_is ∙ one.most_is;

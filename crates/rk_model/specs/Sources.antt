@@ -1,5 +1,5 @@
 -- Sources: a sorted list, and a place in it.
-use Rattle.std.specs.Prelude.{◌≡◌, ℕ, ◌+◌, ◌-◌, ◌<◌, ◌≤◌, nat_lt, Bool, true, ◌&&◌, not, List, [], ◌∷◌, length, if◌then◌else◌, Option, Some, None, is_some, IfSome, Result, OnOk, OnErr}
+use Rattle.std.specs.Prelude.{◌≡◌, ℕ, ◌+◌, ◌-◌, ◌<◌, ◌≤◌, nat_lt, Bool, true, false, ◌&&◌, not, List, [], ◌∷◌, length, if◌then◌else◌, Option, Some, None, is_some, IfSome, Result, OnOk, OnErr}
 use Rattle.std.specs.List.{list_all, slice_get}
 use Rattle.std.specs.Option.{option_and_then, option_map_or}
 use Rattle.std.specs.Ordering.{is_lt, ordering_then, nat_cmp}
@@ -102,12 +102,13 @@ prev_place place = option_and_then before_cut place
 abbrev pub item_at : {A : Type 0} → List A → Option ℕ → Option A
 item_at xs place = option_and_then (slice_get xs) place
 
--- What contracts see of a source: the list, where it is told, the place in it, and a count that places are
--- below, told or not. Then the most reads of a seek of a key, and of any seek; of a step over the gap before a
+-- What contracts see of a source: the list, where it is told, and else which places of which files it may name as
+-- no table; the place in the list, and a count that places are below, told or not. Then the most reads of a seek of a key, and of any seek; of a step over the gap before a
 -- place; and of a turn at a place, which is a step against the call before. And the reads of the turn that a
 -- step forward, or back, would be now.
 pub record Seen (A : Type 0) : Type 0 where
   pub held : Option (List A)
+  pub bad : ℕ → ℕ → Bool
   pub place : Option ℕ
   pub count : ℕ
   pub seek_reads : List ℕ → ℕ
@@ -117,9 +118,14 @@ pub record Seen (A : Type 0) : Type 0 where
   pub turn_to_next : ℕ
   pub turn_to_prev : ℕ
 
--- what no call changes: the list, the count, and what calls may read at most
+-- a source names no bad table where its list is told
+abbrev pub may_name : {A : Type 0} → Seen A → ℕ → ℕ → Bool
+may_name s = λ file at. not (is_some s.held) && s.bad file at
+
+-- what no call changes: the list, the tables that may be bad, the count, and what calls may read at most
 pub record Same {A : Type 0} (before now : Seen A) : Type 0 where
   pub held_is : now.held ≡ before.held
+  pub bad_is : now.bad ≡ before.bad
   pub count_is : now.count ≡ before.count
   pub seek_is : now.seek_reads ≡ before.seek_reads
   pub most_is : now.seek_most ≡ before.seek_most
@@ -159,6 +165,7 @@ pub record ReadsAreBounded {A : Type 0} (s : Seen A) : Type 0 where
 abbrev pub in_memory : {A : Type 0} → ℕ → Option (List A) → Option ℕ → Seen A
 in_memory count held place = record {
   held = held;
+  bad = λ file at. false;
   place = place;
   count = count;
   seek_reads = λ key. 0;

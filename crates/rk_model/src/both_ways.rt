@@ -1,7 +1,7 @@
 //! What a source of points holds, read from a key on or back from it.
 ghost use Rattle.std.specs.Prelude.{◌≡◌, IfSome, IfOk, OnOk, None, take, drop, reverse};
 ghost use Rattle.rk_outside.specs.Causes.{HasSourceCause, RaisesAtMost};
-ghost use Rattle.rk_model.specs.Sources.{Same, points_below};
+ghost use Rattle.rk_model.specs.Sources.{Same, may_name, points_below};
 ghost use Rattle.rk_model.specs.Reads.{reads_from, reads_before};
 
 use crate::{Entry, PointSource};
@@ -13,7 +13,7 @@ use std::alloc::Global;
 ///
 /// # Errors
 ///
-/// As [`PointSource::seek_ge`].
+/// As [`PointSource::seek_ge`], but the source may be at any place then.
 pub fn points_from<R: Counting, S: PointSource<R>>(
     alloc: Global,
     source: &mut S,
@@ -23,7 +23,7 @@ pub fn points_from<R: Counting, S: PointSource<R>>(
     ensures points { IfOk result (λ points. IfSome (S.seen source.old).held (λ es. points.items ≡ drop (points_below key.now es) es)) }
     ensures same { Same (S.seen source.old) (S.seen source.new) }
     ensures over { OnOk result ((S.seen source.new).place ≡ None) }
-    ensures cause { HasSourceCause (S.seen source.old).held (R.fault_count reader.old) (R.fault_count reader.new) result }
+    ensures cause { HasSourceCause (may_name (S.seen source.old)) (R.fault_count reader.old) (R.fault_count reader.new) result }
     ensures reads { RaisesAtMost (R.read_count reader.old) (R.read_count reader.new) (reads_from key.now (S.seen source.old)) }
 {
     let mut points = Vec::new(alloc);
@@ -39,7 +39,7 @@ pub fn points_from<R: Counting, S: PointSource<R>>(
 ///
 /// # Errors
 ///
-/// As [`PointSource::seek_ge`].
+/// As [`PointSource::seek_ge`], but the source may be at any place then.
 pub fn points_before<R: Counting, S: PointSource<R>>(
     alloc: Global,
     source: &mut S,
@@ -49,7 +49,7 @@ pub fn points_before<R: Counting, S: PointSource<R>>(
     ensures points { IfOk result (λ points. IfSome (S.seen source.old).held (λ es. points.items ≡ reverse (take (points_below key.now es) es))) }
     ensures same { Same (S.seen source.old) (S.seen source.new) }
     ensures over { OnOk result ((S.seen source.new).place ≡ None) }
-    ensures cause { HasSourceCause (S.seen source.old).held (R.fault_count reader.old) (R.fault_count reader.new) result }
+    ensures cause { HasSourceCause (may_name (S.seen source.old)) (R.fault_count reader.old) (R.fault_count reader.new) result }
     ensures reads { RaisesAtMost (R.read_count reader.old) (R.read_count reader.new) (reads_before key.now (S.seen source.old)) }
 {
     let mut points = Vec::new(alloc);

@@ -21,7 +21,11 @@ pub fn copy_key(key: &UserKey) -> Result<UserKey, NoMemory>
 }
 
 /// An equal bound.
-pub(crate) fn copy_bound(bound: &Option<UserKey>) -> Result<Option<UserKey>, NoMemory>
+///
+/// # Errors
+///
+/// As [`copy_key`].
+pub fn copy_bound(bound: &Option<UserKey>) -> Result<Option<UserKey>, NoMemory>
     ensures { IfOk result (λ b. b ≡ bound.now) }
 {
     match bound {

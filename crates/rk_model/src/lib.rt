@@ -7,7 +7,8 @@
 //! memory ends it stays as it was.
 //!
 //! [`PointSource`] and [`SpanSource`] are what a chunk, a table, a level and a merge are to the crates above: a
-//! sorted list and a place in it. [`ListPoints`] and [`ListSpans`] are sources over lists in memory.
+//! sorted list and a place in it. [`ListPoints`] and [`ListSpans`] are sources over lists in memory, [`point_ge`] and
+//! its like find places in such lists, and [`points_from`] and [`points_before`] read out what a source holds.
 #![tactic(auto)]
 
 mod both_ways;
@@ -22,13 +23,13 @@ mod source;
 mod span;
 
 pub use both_ways::{points_before, points_from};
-pub use copies::copy_key;
+pub use copies::{copy_bound, copy_key};
 pub use cursor::Cursor;
 pub use list_source::{ListPoints, ListSpans};
 pub use op::{Entry, Op};
 pub use options::IterOptions;
-pub use places::{before_cut, behind_cut, point_ge, point_lt, span_ge, span_lt};
-pub use plain::Plain;
+pub use places::{before_cut, behind_cut, compare_entries, point_ge, point_lt, span_ge, span_lt};
+pub use plain::{Plain, first_greater};
 pub use source::{PointList, PointSource, SpanList, SpanSource};
 pub use span::{RangeKey, RangeKeys, RangeKind, Span, SuffixValue};
 

@@ -1,9 +1,10 @@
 //! Places in sorted lists of points and of spans, by binary search.
 ghost use Rattle.std.specs.Prelude.{◌≡◌, ◌<◌, ◌≤◌, IsTrue, IfSome, length};
-ghost use Rattle.rk_model.specs.Sources.{are_points, are_spans, points_below, spans_ended, spans_begun, point_ge, point_lt, span_ge, span_lt, behind_cut, before_cut, op_key};
+ghost use Rattle.rk_model.specs.Sources.{are_points, are_spans, points_below, spans_ended, spans_begun, point_ge, point_lt, span_ge, span_lt, behind_cut, before_cut, op_key, entry_cmp};
 
 use crate::{Entry, Op, Span};
 use rk_key::UserKey;
+use std::cmp::Ordering;
 
 impl Op {
     /// The key of a point, and the start of a span.
@@ -17,6 +18,13 @@ impl Op {
             | Op::RangeDel { start, .. } => start,
         }
     }
+}
+
+/// The order of a source of points: by key, and the newer one of one key first.
+pub fn compare_entries(e: &Entry, f: &Entry) -> Ordering
+    ensures { result ≡ entry_cmp e.now f.now }
+{
+    e.op.key().cmp(f.op.key()).then(f.seq.cmp(&e.seq))
 }
 
 /// The place of the first entry whose key is not below the key, in a sorted list of points.

@@ -1,5 +1,5 @@
 //! The slow evaluator: the definitions of what an iterator shows, computed as they stand.
-ghost use Rattle.std.specs.Prelude.{◌≡◌, [], is_some, IfOk, OnErr, MatchOption};
+ghost use Rattle.std.specs.Prelude.{◌≡◌, [], is_some, IfOk, OnOk, OnErr, MatchOption};
 ghost use Rattle.std.specs.Option.{option_copied};
 ghost use Rattle.rk_model.specs.Spans.{widest_span};
 ghost use Rattle.rk_model.specs.Positions.{shown};
@@ -17,6 +17,7 @@ mod spans;
 
 use crate::copies::copy_entries;
 use crate::{Cursor, Entry, IterOptions, SuffixValue};
+pub use cover::first_greater;
 use covers::cover;
 use ends::{EndCover, covered_ends};
 use positions::{positions, shown};
@@ -123,7 +124,7 @@ impl Plain {
 
     /// Moves to a cursor, and says whether it is at a key.
     fn go_to(&mut self, cursor: Cursor) -> Result<bool, NoMemory>
-        ensures moved { IfOk result (λ there. self.new ≡ at_cursor self.old cursor) }
+        ensures moved { OnOk result (self.new ≡ at_cursor self.old cursor) }
         ensures answer { IfOk result (λ there. there ≡ is_some (key_at cursor)) }
         ensures unmoved { OnErr result (self.new ≡ self.old) }
     {
@@ -149,7 +150,7 @@ impl Plain {
     ///
     /// `NoMemory` where the cursor or its report finds no memory. It stays as it was.
     pub fn first(&mut self) -> Result<bool, NoMemory>
-        ensures moved { IfOk result (λ there. self.new ≡ after_move self.old First) }
+        ensures moved { OnOk result (self.new ≡ after_move self.old First) }
         ensures answer { IfOk result (λ there. there ≡ is_some (key_at self.new.cursor)) }
         ensures unmoved { OnErr result (self.new ≡ self.old) }
     {
@@ -157,13 +158,14 @@ impl Plain {
         self.go_to(cursor)
     }
 
-    /// Moves to the next position, or to the end.
+    /// Moves to the next position, or to the end. From no position yet, and from the start, it is the first. The answer
+    /// is whether there is one.
     ///
     /// # Errors
     ///
     /// `NoMemory` where the cursor or its report finds no memory. It stays as it was.
     pub fn next(&mut self) -> Result<bool, NoMemory>
-        ensures moved { IfOk result (λ there. self.new ≡ after_move self.old Next) }
+        ensures moved { OnOk result (self.new ≡ after_move self.old Next) }
         ensures answer { IfOk result (λ there. there ≡ is_some (key_at self.new.cursor)) }
         ensures unmoved { OnErr result (self.new ≡ self.old) }
     {
@@ -177,7 +179,7 @@ impl Plain {
     ///
     /// `NoMemory` where the cursor or its report finds no memory. It stays as it was.
     pub fn last(&mut self) -> Result<bool, NoMemory>
-        ensures moved { IfOk result (λ there. self.new ≡ after_move self.old Last) }
+        ensures moved { OnOk result (self.new ≡ after_move self.old Last) }
         ensures answer { IfOk result (λ there. there ≡ is_some (key_at self.new.cursor)) }
         ensures unmoved { OnErr result (self.new ≡ self.old) }
     {
@@ -185,13 +187,14 @@ impl Plain {
         self.go_to(cursor)
     }
 
-    /// Moves to the position before, or to the start.
+    /// Moves to the position before, or to the start. From no position yet, and from the end, it is the last. The
+    /// answer is whether there is one.
     ///
     /// # Errors
     ///
     /// `NoMemory` where the cursor or its report finds no memory. It stays as it was.
     pub fn prev(&mut self) -> Result<bool, NoMemory>
-        ensures moved { IfOk result (λ there. self.new ≡ after_move self.old Prev) }
+        ensures moved { OnOk result (self.new ≡ after_move self.old Prev) }
         ensures answer { IfOk result (λ there. there ≡ is_some (key_at self.new.cursor)) }
         ensures unmoved { OnErr result (self.new ≡ self.old) }
     {
@@ -200,13 +203,14 @@ impl Plain {
     }
 
     /// Moves to the key where a span is over it, and else to the first position not below it, or to the end.
-    /// A key below the lower bound is raised to it.
+    /// A key below the lower bound is raised to it, and from the upper bound on there is only the end. The answer is
+    /// whether it is at a key then.
     ///
     /// # Errors
     ///
     /// `NoMemory` where the cursor or its report finds no memory. It stays as it was.
     pub fn seek_ge(&mut self, key: &UserKey) -> Result<bool, NoMemory>
-        ensures moved { IfOk result (λ there. self.new ≡ after_move self.old (SeekGe key.now)) }
+        ensures moved { OnOk result (self.new ≡ after_move self.old (SeekGe key.now)) }
         ensures answer { IfOk result (λ there. there ≡ is_some (key_at self.new.cursor)) }
         ensures unmoved { OnErr result (self.new ≡ self.old) }
     {
@@ -226,7 +230,7 @@ impl Plain {
     ///
     /// `NoMemory` where the cursor or its report finds no memory. It stays as it was.
     pub fn seek_lt(&mut self, key: &UserKey) -> Result<bool, NoMemory>
-        ensures moved { IfOk result (λ there. self.new ≡ after_move self.old (SeekLt key.now)) }
+        ensures moved { OnOk result (self.new ≡ after_move self.old (SeekLt key.now)) }
         ensures answer { IfOk result (λ there. there ≡ is_some (key_at self.new.cursor)) }
         ensures unmoved { OnErr result (self.new ≡ self.old) }
     {

@@ -2,7 +2,7 @@
 ghost use Rattle.std.specs.Prelude.{◌≡◌, IsTrue, IsSome, IfSome, OnOk};
 ghost use Rattle.std.specs.Option.{option_copied};
 ghost use Rattle.rk_outside.specs.Causes.{HasSourceCause, RaisesAtMost};
-ghost use Rattle.rk_model.specs.Sources.{Seen, Goes, Rises, IsHere, ReadsAreBounded, are_points, are_spans, point_ge, point_lt, span_ge, span_lt, next_place, prev_place, next_reads, prev_reads};
+ghost use Rattle.rk_model.specs.Sources.{Seen, Goes, Rises, IsHere, ReadsAreBounded, may_name, are_points, are_spans, point_ge, point_lt, span_ge, span_lt, next_place, prev_place, next_reads, prev_reads};
 ghost use Rattle.rk_model.specs.declared.op.Entry.{Entry};
 ghost use Rattle.rk_model.specs.declared.span.Span.{Span};
 
@@ -25,11 +25,12 @@ pub trait PointSource<R: Counting>: PointList {
     /// # Errors
     ///
     /// `ReadFault` only where the reader's count of faults rose in this call, with that count, and `BadTable` only
-    /// where the list isn't told. All else leaves that count. After a refusal there is no place.
+    /// where the list isn't told, of a place that the source may name. All else leaves that count. After a refusal
+    /// there is no place.
     fn seek_ge(&mut self, reader: &mut R, key: &UserKey) -> Result<(), SourceError>
         ensures goes { Goes (Self.seen self.old) (Self.seen self.new) (λ xs. point_ge key.now xs) result }
         ensures ahead { OnOk result ((Self.seen self.new).turn_to_next ≡ 0) }
-        ensures cause { HasSourceCause (Self.seen self.old).held (R.fault_count reader.old) (R.fault_count reader.new) result }
+        ensures cause { HasSourceCause (may_name (Self.seen self.old)) (R.fault_count reader.old) (R.fault_count reader.new) result }
         ensures reads { RaisesAtMost (R.read_count reader.old) (R.read_count reader.new) ((Self.seen self.old).seek_reads key.now) };
 
     /// Goes to the last entry whose key is below the key.
@@ -40,7 +41,7 @@ pub trait PointSource<R: Counting>: PointList {
     fn seek_lt(&mut self, reader: &mut R, key: &UserKey) -> Result<(), SourceError>
         ensures goes { Goes (Self.seen self.old) (Self.seen self.new) (λ xs. point_lt key.now xs) result }
         ensures back { OnOk result ((Self.seen self.new).turn_to_prev ≡ 0) }
-        ensures cause { HasSourceCause (Self.seen self.old).held (R.fault_count reader.old) (R.fault_count reader.new) result }
+        ensures cause { HasSourceCause (may_name (Self.seen self.old)) (R.fault_count reader.old) (R.fault_count reader.new) result }
         ensures reads { RaisesAtMost (R.read_count reader.old) (R.read_count reader.new) ((Self.seen self.old).seek_reads key.now) };
 
     /// Goes one place on, and to none from the last.
@@ -53,7 +54,7 @@ pub trait PointSource<R: Counting>: PointList {
         ensures goes { Goes (Self.seen self.old) (Self.seen self.new) (λ xs. next_place xs (Self.seen self.old).place) result }
         ensures on { OnOk result (Rises (Self.seen self.old).place (Self.seen self.new).place) }
         ensures ahead { OnOk result ((Self.seen self.new).turn_to_next ≡ 0) }
-        ensures cause { HasSourceCause (Self.seen self.old).held (R.fault_count reader.old) (R.fault_count reader.new) result }
+        ensures cause { HasSourceCause (may_name (Self.seen self.old)) (R.fault_count reader.old) (R.fault_count reader.new) result }
         ensures reads { RaisesAtMost (R.read_count reader.old) (R.read_count reader.new) (next_reads (Self.seen self.old)) };
 
     /// Goes one place back, and to none from the first.
@@ -66,7 +67,7 @@ pub trait PointSource<R: Counting>: PointList {
         ensures goes { Goes (Self.seen self.old) (Self.seen self.new) (λ xs. prev_place (Self.seen self.old).place) result }
         ensures down { OnOk result (Rises (Self.seen self.new).place (Self.seen self.old).place) }
         ensures back { OnOk result ((Self.seen self.new).turn_to_prev ≡ 0) }
-        ensures cause { HasSourceCause (Self.seen self.old).held (R.fault_count reader.old) (R.fault_count reader.new) result }
+        ensures cause { HasSourceCause (may_name (Self.seen self.old)) (R.fault_count reader.old) (R.fault_count reader.new) result }
         ensures reads { RaisesAtMost (R.read_count reader.old) (R.read_count reader.new) (prev_reads (Self.seen self.old)) };
 
     /// Lends the entry at the place, if there is one.
@@ -95,11 +96,12 @@ pub trait SpanSource<R: Counting>: SpanList {
     /// # Errors
     ///
     /// `ReadFault` only where the reader's count of faults rose in this call, with that count, and `BadTable` only
-    /// where the list isn't told. All else leaves that count. After a refusal there is no place.
+    /// where the list isn't told, of a place that the source may name. All else leaves that count. After a refusal
+    /// there is no place.
     fn seek_ge(&mut self, reader: &mut R, key: &UserKey) -> Result<(), SourceError>
         ensures goes { Goes (Self.seen self.old) (Self.seen self.new) (λ xs. span_ge key.now xs) result }
         ensures ahead { OnOk result ((Self.seen self.new).turn_to_next ≡ 0) }
-        ensures cause { HasSourceCause (Self.seen self.old).held (R.fault_count reader.old) (R.fault_count reader.new) result }
+        ensures cause { HasSourceCause (may_name (Self.seen self.old)) (R.fault_count reader.old) (R.fault_count reader.new) result }
         ensures reads { RaisesAtMost (R.read_count reader.old) (R.read_count reader.new) ((Self.seen self.old).seek_reads key.now) };
 
     /// Goes to the last span whose start is below the key.
@@ -110,7 +112,7 @@ pub trait SpanSource<R: Counting>: SpanList {
     fn seek_lt(&mut self, reader: &mut R, key: &UserKey) -> Result<(), SourceError>
         ensures goes { Goes (Self.seen self.old) (Self.seen self.new) (λ xs. span_lt key.now xs) result }
         ensures back { OnOk result ((Self.seen self.new).turn_to_prev ≡ 0) }
-        ensures cause { HasSourceCause (Self.seen self.old).held (R.fault_count reader.old) (R.fault_count reader.new) result }
+        ensures cause { HasSourceCause (may_name (Self.seen self.old)) (R.fault_count reader.old) (R.fault_count reader.new) result }
         ensures reads { RaisesAtMost (R.read_count reader.old) (R.read_count reader.new) ((Self.seen self.old).seek_reads key.now) };
 
     /// Goes one place on, and to none from the last.
@@ -123,7 +125,7 @@ pub trait SpanSource<R: Counting>: SpanList {
         ensures goes { Goes (Self.seen self.old) (Self.seen self.new) (λ xs. next_place xs (Self.seen self.old).place) result }
         ensures on { OnOk result (Rises (Self.seen self.old).place (Self.seen self.new).place) }
         ensures ahead { OnOk result ((Self.seen self.new).turn_to_next ≡ 0) }
-        ensures cause { HasSourceCause (Self.seen self.old).held (R.fault_count reader.old) (R.fault_count reader.new) result }
+        ensures cause { HasSourceCause (may_name (Self.seen self.old)) (R.fault_count reader.old) (R.fault_count reader.new) result }
         ensures reads { RaisesAtMost (R.read_count reader.old) (R.read_count reader.new) (next_reads (Self.seen self.old)) };
 
     /// Goes one place back, and to none from the first.
@@ -136,7 +138,7 @@ pub trait SpanSource<R: Counting>: SpanList {
         ensures goes { Goes (Self.seen self.old) (Self.seen self.new) (λ xs. prev_place (Self.seen self.old).place) result }
         ensures down { OnOk result (Rises (Self.seen self.new).place (Self.seen self.old).place) }
         ensures back { OnOk result ((Self.seen self.new).turn_to_prev ≡ 0) }
-        ensures cause { HasSourceCause (Self.seen self.old).held (R.fault_count reader.old) (R.fault_count reader.new) result }
+        ensures cause { HasSourceCause (may_name (Self.seen self.old)) (R.fault_count reader.old) (R.fault_count reader.new) result }
         ensures reads { RaisesAtMost (R.read_count reader.old) (R.read_count reader.new) (prev_reads (Self.seen self.old)) };
 
     /// Lends the span at the place, if there is one.

@@ -1,5 +1,5 @@
 -- When a failure has a cause: a count of faults that rose in the call.
-use Rattle.std.specs.Prelude.{◌≡◌, ℕ, ◌+◌, ◌-◌, ◌^◌, ◌≤◌, min, Option, Some, None, Result, OnOk, OnErr, IfErr, IsErrOf}
+use Rattle.std.specs.Prelude.{◌≡◌, ℕ, ◌+◌, ◌-◌, ◌^◌, ◌≤◌, min, Bool, IsTrue, Result, OnOk, OnErr, IfErr, IsErrOf}
 use Rattle.rk_outside.specs.declared.error.SourceError.{SourceError}
 use Rattle.rk_outside.specs.declared.error.SourceError.TheVariants.{Memory, ReadFault, BadTable}
 
@@ -24,16 +24,16 @@ pub record RaisesAtMost (before now most : ℕ) : Type 0 where
   pub later : before ≤ now
   pub bound : now ≤ before + most
 
--- Why a source of entries refused: memory may run out at any time, a fault carries the count that rose, and a
--- source that tells what it holds has no bad table. Where it is no fault that is answered, the count stayed.
-abbrev pub IsSourceRefusal : {A : Type 0} → Option A → ℕ → ℕ → SourceError → Type 0
-IsSourceRefusal held before now Memory = now ≡ before
-IsSourceRefusal held before now (ReadFault faults) = (faults ≡ now) × Rose before now
-IsSourceRefusal None before now (BadTable file at) = now ≡ before
-IsSourceRefusal (Some held) before now (BadTable file at) = ⊥
+-- Why a source of entries refused: memory may run out at any time, a fault carries the count that rose, and a bad
+-- table is named only where the source may name that place of that file. Where it is no fault that is answered, the
+-- count stayed.
+abbrev pub IsSourceRefusal : (ℕ → ℕ → Bool) → ℕ → ℕ → SourceError → Type 0
+IsSourceRefusal may_name before now Memory = now ≡ before
+IsSourceRefusal may_name before now (ReadFault faults) = (faults ≡ now) × Rose before now
+IsSourceRefusal may_name before now (BadTable file at) = IsTrue (may_name file at) × (now ≡ before)
 
 -- the count never falls, a refusal has its cause, and no fault is passed over
-pub record HasSourceCause {A T : Type 0} (held : Option A) (before now : ℕ) (result : Result T SourceError) : Type 0 where
+pub record HasSourceCause {T : Type 0} (may_name : ℕ → ℕ → Bool) (before now : ℕ) (result : Result T SourceError) : Type 0 where
   pub later : before ≤ now
-  pub failed : IfErr result (IsSourceRefusal held before now)
+  pub failed : IfErr result (IsSourceRefusal may_name before now)
   pub kept : OnOk result (now ≡ before)

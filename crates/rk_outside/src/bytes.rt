@@ -23,6 +23,10 @@ impl Model for Bytes {
 
 impl Bytes {
     /// These bytes, copied.
+    ///
+    /// # Errors
+    ///
+    /// [`NoMemory`] where the copy finds no memory.
     pub fn from_slice(alloc: Global, bytes: &[u8]) -> Result<Bytes, NoMemory>
         ensures { IfOk result (λ b. b ≡ bytes.now) }
     {
@@ -51,6 +55,10 @@ impl Bytes {
     }
 
     /// An equal list of bytes.
+    ///
+    /// # Errors
+    ///
+    /// [`NoMemory`] where the copy finds no memory.
     pub fn copy(&self) -> Result<Bytes, NoMemory>
         ensures { IfOk result (λ b. b ≡ self.now) }
     {

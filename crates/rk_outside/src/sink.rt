@@ -1,5 +1,5 @@
 // What can be written piece by piece.
-ghost use Rattle.std.specs.Prelude.{◌≡◌, List, ℕ, Bool, Option, None, IsTrue, IsFalse, IfSome, OnOk, IsErrOf, is_err};
+ghost use Rattle.std.specs.Prelude.{◌≡◌, List, ℕ, Bool, false, Option, Some, IsTrue, IsFalse, IfSome, OnOk, IsErrOf, is_err};
 ghost use Rattle.std.specs.Io.{WritesAtMost};
 ghost use Rattle.std.specs.Io.KnownBytes.{Keeps};
 ghost use Rattle.rk_outside.specs.Calls.{faults_after, is_failed};
@@ -45,10 +45,11 @@ pub trait Sink {
 }
 
 /// A sink over a writer of `std`. Each error of the writer is a fault, and so is a write that takes nothing
-/// of a piece that is not empty.
+/// of a piece that is not empty. It counts as finished from a flush that was well up to the next write.
 #[derive(Debug, Drop)]
 pub struct WriteSink<W> {
     inner: W,
+    finished: bool,
     faults: u64,
 }
 
@@ -56,17 +57,22 @@ impl<W: Write> WriteSink<W> {
     /// Writes behind what this writer holds.
     pub fn new(inner: W) -> WriteSink<W>
         ensures written { ⟦<WriteSink<W> as Sink>⟧.written result ≡ W.contents inner }
+        ensures open { ⟦<WriteSink<W> as Sink>⟧.finished result ≡ Some false }
         ensures faults { ⟦<WriteSink<W> as Sink>⟧.fault_count result ≡ 0 }
         ensures writer { sink_writer result ≡ inner }
     {
-        WriteSink { inner, faults: 0 }
+        WriteSink {
+            inner,
+            finished: false,
+            faults: 0,
+        }
     }
 
     /// Gives the writer back.
     pub fn into_inner(self) -> W
         ensures { result ≡ sink_writer self }
     {
-        let WriteSink { inner, faults: _ } = self;
+        let WriteSink { inner, .. } = self;
         inner
     }
 }
@@ -74,7 +80,7 @@ impl<W: Write> WriteSink<W> {
 impl<W: Write> Sink for WriteSink<W> {
     ghost written = { λ s. W.contents s.inner };
 
-    ghost finished = { λ _. None };
+    ghost finished = { λ s. Some s.finished };
 
     ghost fault_count = { λ s. s.faults };
 
@@ -85,10 +91,12 @@ impl<W: Write> Sink for WriteSink<W> {
             bytes.now }
         ensures failed { IsErrOf result SinkError.Failed →
             AppendsPrefix (W.contents self.old.inner) (W.contents self.new.inner) bytes.now }
+        ensures open { IsFalse self.new.finished }
         ensures cause { HasCauseOf SinkError.Failed self.old.faults self.new.faults result }
         ensures counted { self.new.faults ≡ faults_after (is_failed result) self.old.faults }
         ensures never_memory { IsErrOf result SinkError.Memory → ⊥ }
     {
+        self.finished = false;
         match self.inner.write(bytes) {
             Ok(count) if count > 0 || bytes.is_empty() => Ok(count),
             _ => {
@@ -100,11 +108,15 @@ impl<W: Write> Sink for WriteSink<W> {
 
     fn finish(&mut self) -> Result<(), Failed>
         ensures kept { Keeps (W.contents self.old.inner) (W.contents self.new.inner) }
+        ensures finished { OnOk result (IsTrue self.new.finished) }
         ensures cause { HasCause self.old.faults self.new.faults result }
         ensures counted { self.new.faults ≡ faults_after (is_err result) self.old.faults }
     {
         match self.inner.flush() {
-            Ok(()) => Ok(()),
+            Ok(()) => {
+                self.finished = true;
+                Ok(())
+            }
             Err(_) => {
                 self.faults = self.faults.saturating_add(1);
                 Err(Failed)

@@ -1,10 +1,10 @@
 -- The sources of a merge together: the union that no call changes.
 use Rattle.std.proofs.Common.{◌≡◌, ℕ, ◌<◌, length, get_or, set, map, List, [], ◌∷◌, None, Result, refl, ap, sym, ◌∙◌}
 use Rattle.rk_outside.specs.declared.error.SourceError.{SourceError}
-use Rattle.rk_model.specs.Sources.{Seen}
+use Rattle.rk_model.specs.Sources.{Seen, may_name}
 use Rattle.rk_model.specs.Runs.{at_rest, Runs}
 use Rattle.rk_model.specs.declared.op.Entry.{Entry}
-use Rattle.rk_merge.specs.Several.{all_rest}
+use Rattle.rk_merge.specs.Several.{all_rest, names_of}
 use Rattle.rk_merge.proofs.Several.{told_rest, untold as untold_one, runs_set as runs_set_in}
 use Rattle.rk_pointmerge.specs.Merges.{united, told_items}
 
@@ -23,5 +23,5 @@ module _ {S : Type 0} (seen : S → Seen Entry) where
   untold ss k d h e = rw (untold_one seen ss k d h e) refl
 
   pub runs_set : {T : Type 0} (ss : List S) (k : ℕ) (v d : S) (f f' r r' m : ℕ) (result : Result T SourceError) → k < length ss
-      → Runs (at_rest (seen (get_or ss k d))) (at_rest (seen v)) (seen (get_or ss k d)).held f f' r r' m result → Runs (all_rest seen ss) (all_rest seen (set ss k v)) (united seen ss) f f' r r' m result
+      → Runs (at_rest (seen (get_or ss k d))) (at_rest (seen v)) (may_name (seen (get_or ss k d))) f f' r r' m result → Runs (all_rest seen ss) (all_rest seen (set ss k v)) (names_of seen (united seen ss) ss) f f' r r' m result
   runs_set ss k v d f f' r r' m result h runs = runs_set_in seen (united seen ss) ss k v d f f' r r' m result h (untold ss k d h) runs

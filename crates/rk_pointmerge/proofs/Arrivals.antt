@@ -24,7 +24,7 @@ use Rattle.rk_pointmerge.proofs.Turns.{straight}
 use Rattle.rk_pointmerge.proofs.Settles.{settle_at, settle_none}
 use Rattle.rk_merge.proofs.Totals.{total_le, total_at, total_lt}
 use Rattle.rk_pointmerge.proofs.Leaves.{slice_at, stands_shows, stands_held, placed_reach, told_at, rest_items, merged_some}
-use Rattle.rk_merge.proofs.Several.{rest_total, rest_at, rest_length, pick}
+use Rattle.rk_merge.proofs.Several.{rest_any, rest_total, rest_at, rest_length, pick}
 use Rattle.rk_pointmerge.proofs.Alls.{rest_united}
 
 module _ {S : Type 0} (seen : S → Seen Entry) where
@@ -55,6 +55,7 @@ module _ {S : Type 0} (seen : S → Seen Entry) where
       let u = rest_united seen news olds e in
       record {
         held_is = u;
+        bad_is = rest_any seen news olds e;
         count_is = ap (λ h. merged_count seen h news) u ∙ count_rest news olds e (united seen olds);
         seek_is = fun_ext (λ (key : List ℕ). rest_total seen (λ s. s.seek_reads key) (λ x. refl) news olds e);
         most_is = rest_total seen (λ s. s.seek_most) (λ x. refl) news olds e;

@@ -1,11 +1,12 @@
 -- Worked examples: what the definitions give on three short lists, of versions of one key and of others. Each is
 -- computed.
 use Rattle.std.proofs.Common.{◌≡◌, ℕ, List, [], ◌∷◌, Some, None, refl, length, true, false}
-use Rattle.std.specs.Prelude.{codes}
+use Rattle.std.specs.Prelude.{codes, nat_eq, ◌&&◌}
 use Rattle.rk_model.specs.declared.op.Op.{Op}
 use Rattle.rk_model.specs.declared.op.Op.TheVariants.{Put, Del}
 use Rattle.rk_model.specs.declared.op.Entry.{Entry}
-use Rattle.rk_model.specs.Sources.{Seen, in_memory, sound_points}
+use Rattle.rk_model.specs.Sources.{Seen, in_memory, may_name, sound_points}
+use Rattle.rk_merge.proofs.Costs.{costly}
 use Rattle.rk_pointmerge.specs.Merges.{united, merged, merged_turn, end_reads}
 use Rattle.rk_pointmerge.specs.Views.{visible, viewed, hidden_reads}
 
@@ -40,6 +41,22 @@ their_union = refl
 one_number_twice : united list ((put_a ∷ []) ∷ (put_a ∷ []) ∷ []) ≡ None
 one_number_twice = refl
 
+-- beside a source whose file is damaged nothing is told, and that place alone of that file may be named
+abbrev damaged : Seen Entry
+damaged = record (in_memory 1 None None) { bad = λ file at. nat_eq file 16 && nat_eq at 49 }
+
+abbrev beside_damaged : Seen Entry
+beside_damaged = merged (λ s. s) (list (put_a ∷ []) ∷ damaged ∷ []) None true
+
+the_damaged_place_is_named : may_name (viewed beside_damaged 2 None) 16 49 ≡ true
+the_damaged_place_is_named = refl
+
+no_other_place_is_named : may_name beside_damaged 16 48 ≡ false
+no_other_place_is_named = refl
+
+no_other_file_is_named : may_name (viewed beside_damaged 2 None) 17 49 ≡ false
+no_other_file_is_named = refl
+
 -- the third source stands at its entry, and the others beyond their ends
 abbrev stood : List (Seen Entry)
 stood = in_memory 2 (sound_points (delete_a ∷ put_a ∷ [])) None ∷ in_memory 1 (sound_points (put_b ∷ [])) None ∷ in_memory 1 (sound_points (put_c ∷ [])) (Some 0) ∷ []
@@ -47,19 +64,9 @@ stood = in_memory 2 (sound_points (delete_a ∷ put_a ∷ [])) None ∷ in_memor
 their_last_place : (merged (λ s. s) stood (Some 2) true).place ≡ Some 3
 their_last_place = refl
 
--- what turns read where a seek reads ten, a step one, and a turn two more
+-- what turns read
 abbrev dear : List Entry → Seen Entry
-dear es = record {
-  held = sound_points es;
-  place = None;
-  count = length es;
-  seek_reads = λ key. 10;
-  seek_most = 10;
-  step_reads = λ gap. 1;
-  turn_reads = λ place. 2;
-  turn_to_next = 0;
-  turn_to_prev = 0;
-}
+dear es = costly (length es) (sound_points es)
 
 -- ahead from the first entry two sources seek, as they have none up to it, and from the last one none does
 a_turn_ahead_at_the_first_entry : merged_turn true dear (Some all) lists 0 ≡ 23

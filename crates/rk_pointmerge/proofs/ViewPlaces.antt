@@ -1,12 +1,12 @@
 -- Places among what is visible.
-use Rattle.std.proofs.Common.{◌≡◌, ℕ, ◌+◌, ◌^◌, ◌<◌, ◌≤◌, length, Bool, true, false, not, List, Option, Some, None, is_some, IfSome, IsTrue, Ok, Err, slice_get, option_map, refl, ap, sym, subst, ◌∙◌, arith}
+use Rattle.std.proofs.Common.{◌≡◌, ℕ, ◌+◌, ◌^◌, ◌<◌, ◌≤◌, length, Bool, ◌&&◌, true, false, not, List, Option, Some, None, is_some, IfSome, IsTrue, Ok, Err, slice_get, option_map, refl, ap, sym, subst, ◌∙◌, arith}
 use Rattle.std.proofs.lemmas.Bool.{not-true, not-false}
 use Rattle.std.specs.Ordering.{is_lt, is_eq}
 use Rattle.rk_key.specs.Keys.{key_cmp}
 use Rattle.rk_key.specs.Laws.{key_cmp-total}
 use Rattle.rk_key.proofs.TotalOrders.{lt_itself, eq_is}
 use Rattle.rk_outside.specs.declared.error.SourceError.{SourceError}
-use Rattle.rk_model.specs.Sources.{Seen, Same, Goes, IsHere, ReadsAreBounded, are_points, ascends, entry_cmp, count_before, item_at, op_key, points_below}
+use Rattle.rk_model.specs.Sources.{Seen, Same, Goes, IsHere, ReadsAreBounded, may_name, are_points, ascends, entry_cmp, count_before, item_at, op_key, points_below}
 use Rattle.rk_model.specs.declared.op.Entry.{Entry}
 use Rattle.rk_merge.specs.Unions.{Among}
 use Rattle.rk_merge.specs.Cuts.{place_near, cut_at, cut_past, step_place, is_beyond}
@@ -94,12 +94,21 @@ module _ (n : ℕ) (es : List Entry) (up : ascends (λ a b. is_lt (entry_cmp a b
 pub viewed_same : (s t : Seen Entry) (n : ℕ) (m k : Option ℕ) → at_rest t ≡ at_rest s → Same (viewed s n m) (viewed t n k)
 viewed_same s t n m k e = record {
   held_is = ap (λ r. option_map (visible n) r.held) e;
+  bad_is = ap (λ r. r.bad) e;
   count_is = ap (λ r. viewed_count r.held n) e;
   seek_is = ap (λ r. (viewed r n None).seek_reads) e;
   most_is = ap (λ r. (viewed r n None).seek_most) e;
   step_is = ap (λ r. (viewed r n None).step_reads) e;
   turn_is = refl;
 }
+
+-- what is visible may name what the merge may
+pub viewed_names : (s : Seen Entry) (n : ℕ) (m : Option ℕ) → may_name s ≡ may_name (viewed s n m)
+viewed_names s n m = ap (λ told. λ (file at : ℕ). not told && s.bad file at) (told s.held)
+  where
+    told : (h : Option (List Entry)) → is_some h ≡ is_some (option_map (visible n) h)
+    told None = refl
+    told (Some es) = refl
 
 -- what a seek among the sources and a way on from there find
 lands_from : (ahead : Bool) (n : ℕ) (key : Option (List ℕ)) (s t : Seen Entry) → Finds ahead n key s t → IfSome s.held (λ es. (u : Entry → Bool) → Falls u → s.place ≡ place_near ahead (count_before u es) (length es) → (IsTrue ahead → StartsAhead n es u key) → Lands ahead n es u t.place)

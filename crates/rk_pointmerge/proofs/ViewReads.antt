@@ -265,5 +265,5 @@ mark_reads false s n m k = go s.held
     go (Some es) = refl
 
 -- a call that read less than it was known to
-pub runs_within : {X A T : Type 0} (x y : X) (h : Option A) (f f' r r' m k : ℕ) (result : Result T SourceError) → r' ≤ r + k → Runs x y h f f' r r' m result → Runs x y h f f' r r' k result
+pub runs_within : {X T : Type 0} (x y : X) (h : ℕ → ℕ → Bool) (f f' r r' m k : ℕ) (result : Result T SourceError) → r' ≤ r + k → Runs x y h f f' r r' m result → Runs x y h f f' r r' k result
 runs_within x y h f f' r r' m k result le runs = let later = runs.reads.later in record { same = runs.same; cause = runs.cause; reads = record { later = later; bound = le } }

@@ -9,7 +9,7 @@ use Rattle.rk_model.specs.declared.op.Entry.{Entry}
 use Rattle.rk_model.specs.Reads.{sum_to}
 use Rattle.rk_merge.specs.Unions.{union}
 use Rattle.rk_merge.specs.Cuts.{cut_past, place_near}
-use Rattle.rk_merge.specs.Several.{total}
+use Rattle.rk_merge.specs.Several.{total, any_names}
 
 abbrev pub comes_before : Entry → Entry → Bool
 comes_before e f = is_lt (entry_cmp e f)
@@ -107,6 +107,7 @@ merged_turn ahead seen None ss place = total (λ s. turn_most (seen s)) ss
 abbrev pub merged : {S : Type 0} → (S → Seen Entry) → List S → Option ℕ → Bool → Seen Entry
 merged seen ss at ahead = record {
   held = united seen ss;
+  bad = any_names seen ss;
   place = merged_place seen ss at ahead;
   count = merged_count seen (united seen ss) ss;
   seek_reads = λ key. total (λ s. (seen s).seek_reads key) ss;

@@ -74,6 +74,7 @@ viewed_count None n = 2 ^ 64
 abbrev pub viewed : Seen Entry → ℕ → Option ℕ → Seen Entry
 viewed s n mark = record {
   held = option_map (visible n) s.held;
+  bad = s.bad;
   place = viewed_place s.held n s.place mark;
   count = viewed_count s.held n;
   seek_reads = λ key. option_map_or (λ es. s.seek_reads key + hidden_reads s n es (points_below key (visible n es))) s.held (view_most s);

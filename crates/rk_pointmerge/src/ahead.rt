@@ -1,6 +1,7 @@
 // The first visible entry on the way ahead.
 ghost use Rattle.std.specs.Prelude.{◌≡◌, OnOk, IfOk, IfErr};
 ghost use Rattle.rk_outside.specs.declared.error.SourceError.{SourceError};
+ghost use Rattle.rk_model.specs.Sources.{may_name};
 ghost use Rattle.rk_model.specs.Runs.{at_rest, Runs, IsWithin};
 ghost use Rattle.rk_model.specs.Reads.{sum_to};
 ghost use Rattle.rk_pointmerge.specs.Views.{Passes, FindsAhead, ReadsAhead};
@@ -23,7 +24,7 @@ pub(crate) fn find_ahead<R: Counting, P: PointSource<R>>(
     ensures inside { OnOk result (IsWithin (P.seen points.new)) }
     ensures stands { OnOk result ((P.seen points.new).turn_to_next ≡ 0) }
     ensures way { ReadsAhead n key.old (P.seen points.old) (R.read_count reader.old) (R.read_count reader.new) }
-    ensures runs { Runs (at_rest (P.seen points.old)) (at_rest (P.seen points.new)) (P.seen points.old).held (R.fault_count reader.old) (R.fault_count reader.new) (R.read_count reader.old) (R.read_count reader.new) (sum_to (P.seen points.old).step_reads (P.seen points.old).count) result }
+    ensures runs { Runs (at_rest (P.seen points.old)) (at_rest (P.seen points.new)) (may_name (P.seen points.old)) (R.fault_count reader.old) (R.fault_count reader.new) (R.read_count reader.old) (R.read_count reader.new) (sum_to (P.seen points.old).step_reads (P.seen points.old).count) result }
 {
     while let Some(entry) = points.here() {
         if !passes(entry, n, key)? {

@@ -1,6 +1,7 @@
 // The last visible entry on the way back.
 ghost use Rattle.std.specs.Prelude.{◌≡◌, ◌+◌, ◌<◌, ◌≤◌, IsSome, OnOk, IfOk, false};
 ghost use Rattle.rk_pointmerge.specs.Merges.{reach};
+ghost use Rattle.rk_model.specs.Sources.{may_name};
 ghost use Rattle.rk_model.specs.Runs.{at_rest, Runs, IsWithin};
 ghost use Rattle.rk_pointmerge.specs.Views.{FindsBack, FindsNewest, ComesBack, ReadsBack, StandsAhead, IsOld, come_reads, gaps_left, back_most, is_put, return_to, step_over};
 
@@ -22,7 +23,7 @@ pub(crate) fn find_back<R: Counting, P: PointSource<R>>(
     ensures inside { OnOk result (IsWithin (P.seen points.new)) }
     ensures stands { OnOk result (StandsAhead (P.seen points.new)) }
     ensures way { ReadsBack n (return_to (P.seen points.old)) (P.seen points.old) (R.read_count reader.old) (R.read_count reader.new) }
-    ensures runs { Runs (at_rest (P.seen points.old)) (at_rest (P.seen points.new)) (P.seen points.old).held (R.fault_count reader.old) (R.fault_count reader.new) (R.read_count reader.old) (R.read_count reader.new) (back_most (P.seen points.old)) result }
+    ensures runs { Runs (at_rest (P.seen points.old)) (at_rest (P.seen points.new)) (may_name (P.seen points.old)) (R.fault_count reader.old) (R.fault_count reader.new) (R.read_count reader.old) (R.read_count reader.new) (back_most (P.seen points.old)) result }
 {
     while let Some(entry) = points.here() {
         if entry.seq > n {
@@ -53,25 +54,25 @@ fn newest_back<R: Counting, P: PointSource<R>>(
     ensures kept { OnOk result (IsSome key.new) }
     ensures way { ReadsBack n (step_over (P.seen points.old)) (P.seen points.old) (R.read_count reader.old) (R.read_count reader.new) }
     ensures spent { OnOk result (R.read_count reader.new + gaps_left (P.seen points.new) ≤ R.read_count reader.old + gaps_left (P.seen points.old)) }
-    ensures runs { Runs (at_rest (P.seen points.old)) (at_rest (P.seen points.new)) (P.seen points.old).held (R.fault_count reader.old) (R.fault_count reader.new) (R.read_count reader.old) (R.read_count reader.new) (gaps_left (P.seen points.old)) result }
+    ensures runs { Runs (at_rest (P.seen points.old)) (at_rest (P.seen points.new)) (may_name (P.seen points.old)) (R.fault_count reader.old) (R.fault_count reader.new) (R.read_count reader.old) (R.read_count reader.new) (gaps_left (P.seen points.old)) result }
 {
     let Some(entry) = points.here() else {
         return Ok(false);
     };
     key.keep(entry.op.key())?;
-    let mut found = is_set(entry);
+    let mut found = is_put(entry);
     step_one(points, reader, false)?;
     while let Some(entry) = points.here() {
         if entry.seq > n || !key.is(entry.op.key()) {
             break;
         }
-        found = is_set(entry);
+        found = is_put(entry);
         step_one(points, reader, false)?;
     }
     Ok(found)
 }
 
-fn is_set(entry: &Entry) -> bool
+fn is_put(entry: &Entry) -> bool
     ensures { result ≡ is_put entry.now.op }
 {
     matches!(entry.op, Op::Put { .. })
@@ -88,7 +89,7 @@ fn come_back<R: Counting, P: PointSource<R>>(
     ensures ok { OnOk result (ComesBack key.now (P.seen points.old) (P.seen points.new)) }
     ensures inside { OnOk result (IsWithin (P.seen points.new)) }
     ensures stands { OnOk result ((P.seen points.new).turn_to_next ≡ 0) }
-    ensures runs { Runs (at_rest (P.seen points.old)) (at_rest (P.seen points.new)) (P.seen points.old).held (R.fault_count reader.old) (R.fault_count reader.new) (R.read_count reader.old) (R.read_count reader.new) (come_reads key.now (P.seen points.old)) result }
+    ensures runs { Runs (at_rest (P.seen points.old)) (at_rest (P.seen points.new)) (may_name (P.seen points.old)) (R.fault_count reader.old) (R.fault_count reader.new) (R.read_count reader.old) (R.read_count reader.new) (come_reads key.now (P.seen points.old)) result }
 {
     if points.here().is_some() {
         step_one(points, reader, true)

@@ -45,10 +45,7 @@ impl KeptKey {
         ensures memory { IfErr result (λ e. e ≡ SourceError.Memory) }
     {
         self.bytes.clear();
-        match self.bytes.extend_from_slice(key.bytes()) {
-            Ok(()) => Ok(()),
-            Err(_) => Err(SourceError::Memory),
-        }
+        Ok(self.bytes.extend_from_slice(key.bytes())?)
     }
 
     pub(crate) fn is(&self, key: &UserKey) -> bool

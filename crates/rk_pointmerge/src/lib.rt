@@ -1,11 +1,12 @@
 //! The points of several sources as one source, and what is seen of them at a number.
 //!
-//! It stands on the sources of `rk_model` and on the law of merging lists of `rk_merge`. [`PointMerge`] is a
+//! It stands on the keys of `rk_key`, the causes of refusals of `rk_outside`, the sources of `rk_model`, and the
+//! law of merging lists of `rk_merge`. [`PointMerge`] is a
 //! source over sources, proved by their contract alone: its list is their union, by key and the newest first
 //! within one key, told where each of them is told and no two entries over one key have one number.
-//! [`Visible`] shows of each key the newest entry that is numbered at most `n`, where that is a set. Both go
+//! [`Visible`] shows of each key the newest entry that is numbered at most `n`, where that is a put. Both go
 //! both ways and turn anywhere. Where they aren't told, they are safe, return, and hand refusals on with their
-//! causes.
+//! causes; a bad table that they name is one that a source may name.
 #![tactic(auto)]
 
 mod ahead;

@@ -1,6 +1,6 @@
 // Seeks and steps among what is visible.
 ghost use Rattle.std.specs.Prelude.{◌≡◌, ◌+◌, ◌*◌, length, IfOk, OnOk, Some, None};
-ghost use Rattle.rk_model.specs.Sources.{points_below};
+ghost use Rattle.rk_model.specs.Sources.{points_below, may_name};
 ghost use Rattle.rk_merge.specs.Cuts.{place_near, step_place};
 ghost use Rattle.rk_model.specs.Runs.{at_rest, Runs, IsWithin};
 ghost use Rattle.rk_merge.specs.Directions.{turn_to, go_reads};
@@ -24,7 +24,7 @@ pub(crate) fn seek<R: Counting, P: PointSource<R>>(
     ahead: bool,
 ) -> Result<bool, SourceError>
     ensures ok { IfOk result (λ there. Looks n (P.seen points.old) (P.seen points.new) there (λ es. place_near ahead (points_below key.now es) (length es))) }
-    ensures runs { Runs (at_rest (P.seen points.old)) (at_rest (P.seen points.new)) (P.seen points.old).held (R.fault_count reader.old) (R.fault_count reader.new) (R.read_count reader.old) (R.read_count reader.new) ((viewed (P.seen points.old) n None).seek_reads key.now) result }
+    ensures runs { Runs (at_rest (P.seen points.old)) (at_rest (P.seen points.new)) (may_name (P.seen points.old)) (R.fault_count reader.old) (R.fault_count reader.new) (R.read_count reader.old) (R.read_count reader.new) ((viewed (P.seen points.old) n None).seek_reads key.now) result }
 {
     kept.clear();
     seek_one(points, reader, key, ahead)?;
@@ -42,7 +42,7 @@ pub(crate) fn step<R: Counting, P: PointSource<R>>(
 ) -> Result<bool, SourceError>
     requires { Views (P.seen points.old) n }
     ensures ok { IfOk result (λ there. Looks n (P.seen points.old) (P.seen points.new) there (λ es. step_place ahead es (viewed_place (P.seen points.old).held n (P.seen points.old).place (Some 0)))) }
-    ensures runs { Runs (at_rest (P.seen points.old)) (at_rest (P.seen points.new)) (P.seen points.old).held (R.fault_count reader.old) (R.fault_count reader.new) (R.read_count reader.old) (R.read_count reader.new) (go_reads ahead (viewed (P.seen points.old) n (Some 0))) result }
+    ensures runs { Runs (at_rest (P.seen points.old)) (at_rest (P.seen points.new)) (may_name (P.seen points.old)) (R.fault_count reader.old) (R.fault_count reader.new) (R.read_count reader.old) (R.read_count reader.new) (go_reads ahead (viewed (P.seen points.old) n (Some 0))) result }
 {
     let Some(entry) = points.here() else {
         return Ok(false);
@@ -67,7 +67,7 @@ fn find<R: Counting, P: PointSource<R>>(
     ensures inside { OnOk result (IsWithin (P.seen points.new)) }
     ensures stands { OnOk result (StandsAhead (P.seen points.new)) }
     ensures way { ReadsWay ahead n kept.old (P.seen points.old) (R.read_count reader.old) (R.read_count reader.new) }
-    ensures runs { Runs (at_rest (P.seen points.old)) (at_rest (P.seen points.new)) (P.seen points.old).held (R.fault_count reader.old) (R.fault_count reader.new) (R.read_count reader.old) (R.read_count reader.new) (back_most (P.seen points.old)) result }
+    ensures runs { Runs (at_rest (P.seen points.old)) (at_rest (P.seen points.new)) (may_name (P.seen points.old)) (R.fault_count reader.old) (R.fault_count reader.new) (R.read_count reader.old) (R.read_count reader.new) (back_most (P.seen points.old)) result }
 {
     if ahead {
         find_ahead(points, reader, n, kept)

@@ -1,9 +1,9 @@
 // The points of several sources as one list.
 ghost use Rattle.std.specs.Prelude.{◌≡◌, length, IsSome, IfOk, OnOk, Some, None, true};
 ghost use Rattle.rk_outside.specs.Causes.{HasSourceCause, RaisesAtMost};
-ghost use Rattle.rk_model.specs.Sources.{Goes, points_below};
+ghost use Rattle.rk_model.specs.Sources.{Goes, points_below, may_name};
 ghost use Rattle.rk_merge.specs.Cuts.{place_near, step_place};
-ghost use Rattle.rk_merge.specs.Several.{total};
+ghost use Rattle.rk_merge.specs.Several.{total, names_of};
 ghost use Rattle.rk_pointmerge.specs.Merges.{merged, merged_place, merging_seen, united};
 ghost use Rattle.rk_pointmerge.specs.MergeLaws.{united-sorted, merged-bounded};
 ghost use Rattle.rk_model.specs.Runs.{Runs};
@@ -101,7 +101,7 @@ fn seek<R: Counting, S: PointSource<R>>(
 ) -> Result<(), SourceError>
     ensures goes { Goes (merging_seen S.seen merge.old) (merging_seen S.seen merge.new) (λ es. place_near ahead (points_below key.now es) (length es)) result }
     ensures straight { OnOk result (turn_to ahead (merging_seen S.seen merge.new) ≡ 0) }
-    ensures cause { HasSourceCause (merging_seen S.seen merge.old).held (R.fault_count reader.old) (R.fault_count reader.new) result }
+    ensures cause { HasSourceCause (may_name (merging_seen S.seen merge.old)) (R.fault_count reader.old) (R.fault_count reader.new) result }
     ensures reads { RaisesAtMost (R.read_count reader.old) (R.read_count reader.new) ((merging_seen S.seen merge.old).seek_reads key.now) }
 {
     merge.at = None;
@@ -120,7 +120,7 @@ fn step<R: Counting, S: PointSource<R>>(
     ensures goes { Goes (merging_seen S.seen merge.old) (merging_seen S.seen merge.new) (λ es. step_place ahead es (merging_seen S.seen merge.old).place) result }
     ensures moves { OnOk result (MovesOn ahead (merging_seen S.seen merge.old).place (merging_seen S.seen merge.new).place) }
     ensures straight { OnOk result (turn_to ahead (merging_seen S.seen merge.new) ≡ 0) }
-    ensures cause { HasSourceCause (merging_seen S.seen merge.old).held (R.fault_count reader.old) (R.fault_count reader.new) result }
+    ensures cause { HasSourceCause (may_name (merging_seen S.seen merge.old)) (R.fault_count reader.old) (R.fault_count reader.new) result }
     ensures reads { RaisesAtMost (R.read_count reader.old) (R.read_count reader.new) (go_reads ahead (merging_seen S.seen merge.old)) }
 {
     let Some(at) = merge.at.take() else {
@@ -139,7 +139,7 @@ fn seek_all<R: Counting, S: PointSource<R>>(
     ahead: bool,
 ) -> Result<Option<usize>, SourceError>
     ensures ok { IfOk result (λ at. Arrives S.seen sources.new at ahead (λ es. place_near ahead (points_below key.now es) (length es))) }
-    ensures runs { Runs (all_rest S.seen sources.old) (all_rest S.seen sources.new) (united S.seen sources.old) (R.fault_count reader.old) (R.fault_count reader.new) (R.read_count reader.old) (R.read_count reader.new) (total (λ s. (S.seen s).seek_reads key.now) sources.old) result }
+    ensures runs { Runs (all_rest S.seen sources.old) (all_rest S.seen sources.new) (names_of S.seen (united S.seen sources.old) sources.old) (R.fault_count reader.old) (R.fault_count reader.new) (R.read_count reader.old) (R.read_count reader.new) (total (λ s. (S.seen s).seek_reads key.now) sources.old) result }
 {
     place_all(sources, reader, key, ahead, false)?;
     Ok(nearest::<R, S>(sources, ahead))
@@ -156,7 +156,7 @@ fn step_all<R: Counting, S: PointSource<R>>(
     requires { Stands S.seen sources.old at was }
     ensures ok { IfOk result (λ next. Arrives S.seen sources.new next ahead (λ es. step_place ahead es (merged_place S.seen sources.old (Some at) was))) }
     ensures moves { IfOk result (λ next. MovesOn ahead (merged_place S.seen sources.old (Some at) was) (merged_place S.seen sources.new next ahead)) }
-    ensures runs { Runs (all_rest S.seen sources.old) (all_rest S.seen sources.new) (united S.seen sources.old) (R.fault_count reader.old) (R.fault_count reader.new) (R.read_count reader.old) (R.read_count reader.new) (go_reads ahead (merged S.seen sources.old (Some at) was)) result }
+    ensures runs { Runs (all_rest S.seen sources.old) (all_rest S.seen sources.new) (names_of S.seen (united S.seen sources.old) sources.old) (R.fault_count reader.old) (R.fault_count reader.new) (R.read_count reader.old) (R.read_count reader.new) (go_reads ahead (merged S.seen sources.old (Some at) was)) result }
 {
     leave(sources, reader, at, was, ahead)?;
     Ok(nearest::<R, S>(sources, ahead))

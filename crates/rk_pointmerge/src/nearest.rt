@@ -4,7 +4,7 @@ ghost use Rattle.rk_merge.specs.Cuts.{is_nearer};
 ghost use Rattle.rk_pointmerge.specs.Merges.{comes_before, shown};
 ghost use Rattle.rk_pointmerge.specs.Moves.{beats, IsNearest};
 
-use rk_model::{Entry, PointSource};
+use rk_model::{Entry, PointSource, compare_entries};
 use rk_outside::Counting;
 
 // The source that shows the nearest entry, the first one ahead or the last one back.
@@ -48,10 +48,6 @@ fn beats<R: Counting, S: PointSource<R>>(
 fn is_nearer(entry: &Entry, other: &Entry, ahead: bool) -> bool
     ensures { result ≡ is_nearer ahead comes_before entry.now other.now }
 {
-    let order = entry
-        .op
-        .key()
-        .cmp(other.op.key())
-        .then(other.seq.cmp(&entry.seq));
+    let order = compare_entries(entry, other);
     if ahead { order.is_lt() } else { order.is_gt() }
 }

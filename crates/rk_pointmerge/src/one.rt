@@ -1,6 +1,6 @@
 // The moves of one source of a merge, in either direction.
 ghost use Rattle.std.specs.Prelude.{◌≡◌, ◌+◌, ◌<◌, ◌≤◌, length, None, IsSome, IfSome, IfOk, OnOk, IsTrue, true};
-ghost use Rattle.rk_model.specs.Sources.{behind_cut};
+ghost use Rattle.rk_model.specs.Sources.{behind_cut, may_name};
 ghost use Rattle.rk_model.specs.Runs.{at_rest, Runs, IsWithin};
 ghost use Rattle.rk_merge.specs.Directions.{go_reads};
 ghost use Rattle.rk_pointmerge.specs.Merges.{end_reads, turning_reads};
@@ -21,7 +21,7 @@ pub(crate) fn place_one<R: Counting, S: PointSource<R>>(
 ) -> Result<(), SourceError>
     requires { IsTrue turning → IsWithin (S.seen source.old) }
     ensures ok { OnOk result (Placed turning key.now ahead (S.seen source.old) (S.seen source.new)) }
-    ensures runs { Runs (at_rest (S.seen source.old)) (at_rest (S.seen source.new)) (S.seen source.old).held (R.fault_count reader.old) (R.fault_count reader.new) (R.read_count reader.old) (R.read_count reader.new) (placed_most turning key.now ahead (S.seen source.old)) result }
+    ensures runs { Runs (at_rest (S.seen source.old)) (at_rest (S.seen source.new)) (may_name (S.seen source.old)) (R.fault_count reader.old) (R.fault_count reader.new) (R.read_count reader.old) (R.read_count reader.new) (placed_most turning key.now ahead (S.seen source.old)) result }
 {
     if turning {
         turn_one(source, reader, key, ahead)
@@ -39,7 +39,7 @@ pub(crate) fn step_one<R: Counting, S: PointSource<R>>(
     requires placed { IsSome (S.seen source.old).place }
     requires within { IsWithin (S.seen source.old) }
     ensures ok { OnOk result (Steps ahead (S.seen source.old) (S.seen source.new)) }
-    ensures runs { Runs (at_rest (S.seen source.old)) (at_rest (S.seen source.new)) (S.seen source.old).held (R.fault_count reader.old) (R.fault_count reader.new) (R.read_count reader.old) (R.read_count reader.new) (go_reads ahead (S.seen source.old)) result }
+    ensures runs { Runs (at_rest (S.seen source.old)) (at_rest (S.seen source.new)) (may_name (S.seen source.old)) (R.fault_count reader.old) (R.fault_count reader.new) (R.read_count reader.old) (R.read_count reader.new) (go_reads ahead (S.seen source.old)) result }
 {
     if ahead {
         source.next(reader)
@@ -55,7 +55,7 @@ pub(crate) fn seek_one<R: Counting, S: PointSource<R>>(
     ahead: bool,
 ) -> Result<(), SourceError>
     ensures ok { OnOk result (Sought key.now ahead (S.seen source.old) (S.seen source.new)) }
-    ensures runs { Runs (at_rest (S.seen source.old)) (at_rest (S.seen source.new)) (S.seen source.old).held (R.fault_count reader.old) (R.fault_count reader.new) (R.read_count reader.old) (R.read_count reader.new) ((S.seen source.old).seek_reads key.now) result }
+    ensures runs { Runs (at_rest (S.seen source.old)) (at_rest (S.seen source.new)) (may_name (S.seen source.old)) (R.fault_count reader.old) (R.fault_count reader.new) (R.read_count reader.old) (R.read_count reader.new) ((S.seen source.old).seek_reads key.now) result }
 {
     if ahead {
         source.seek_ge(reader, key)
@@ -73,7 +73,7 @@ fn turn_one<R: Counting, S: PointSource<R>>(
 ) -> Result<(), SourceError>
     requires { IsWithin (S.seen source.old) }
     ensures ok { OnOk result (Turned key.now ahead (S.seen source.old) (S.seen source.new)) }
-    ensures runs { Runs (at_rest (S.seen source.old)) (at_rest (S.seen source.new)) (S.seen source.old).held (R.fault_count reader.old) (R.fault_count reader.new) (R.read_count reader.old) (R.read_count reader.new) (turning_reads ahead key.now (S.seen source.old) (S.seen source.old).place) result }
+    ensures runs { Runs (at_rest (S.seen source.old)) (at_rest (S.seen source.new)) (may_name (S.seen source.old)) (R.fault_count reader.old) (R.fault_count reader.new) (R.read_count reader.old) (R.read_count reader.new) (turning_reads ahead key.now (S.seen source.old) (S.seen source.old).place) result }
 {
     if source.here().is_some() {
         step_one(source, reader, ahead)
@@ -92,7 +92,7 @@ fn go_last<R: Counting, S: PointSource<R>>(
     key: &UserKey,
 ) -> Result<(), SourceError>
     ensures ok { OnOk result (ToLast key.now (S.seen source.old) (S.seen source.new)) }
-    ensures runs { Runs (at_rest (S.seen source.old)) (at_rest (S.seen source.new)) (S.seen source.old).held (R.fault_count reader.old) (R.fault_count reader.new) (R.read_count reader.old) (R.read_count reader.new) (end_reads key.now (S.seen source.old)) result }
+    ensures runs { Runs (at_rest (S.seen source.old)) (at_rest (S.seen source.new)) (may_name (S.seen source.old)) (R.fault_count reader.old) (R.fault_count reader.new) (R.read_count reader.old) (R.read_count reader.new) (end_reads key.now (S.seen source.old)) result }
 {
     seek_one(source, reader, key, true)?;
     if source.here().is_none() {
@@ -112,7 +112,7 @@ fn count_on<R: Counting, S: PointSource<R>>(
     requires within { IsWithin (S.seen source.old) }
     requires straight { (S.seen source.old).turn_to_next ≡ 0 }
     ensures ok { IfOk result (λ more. IfSome (S.seen source.old).held (λ es. IfSome (S.seen source.old).place (λ i. i < length es → i + more + 1 ≡ length es))) }
-    ensures runs { Runs (at_rest (S.seen source.old)) (at_rest (S.seen source.new)) (S.seen source.old).held (R.fault_count reader.old) (R.fault_count reader.new) (R.read_count reader.old) (R.read_count reader.new) (reads_left (S.seen source.old)) result }
+    ensures runs { Runs (at_rest (S.seen source.old)) (at_rest (S.seen source.new)) (may_name (S.seen source.old)) (R.fault_count reader.old) (R.fault_count reader.new) (R.read_count reader.old) (R.read_count reader.new) (reads_left (S.seen source.old)) result }
 {
     let mut more: usize = 0;
     step_one(source, reader, true)?;
@@ -136,7 +136,7 @@ fn go_on<R: Counting, S: PointSource<R>>(
     requires straight { (S.seen source.old).turn_to_next ≡ 0 }
     ensures ok { OnOk result (IfSome (S.seen source.old).held (λ es. IfSome (S.seen source.old).place (λ i. i < length es → (S.seen source.new).place ≡ behind_cut (i + steps) (length es)))) }
     ensures inside { OnOk result (IsWithin (S.seen source.new)) }
-    ensures runs { Runs (at_rest (S.seen source.old)) (at_rest (S.seen source.new)) (S.seen source.old).held (R.fault_count reader.old) (R.fault_count reader.new) (R.read_count reader.old) (R.read_count reader.new) (reads_left (S.seen source.old)) result }
+    ensures runs { Runs (at_rest (S.seen source.old)) (at_rest (S.seen source.new)) (may_name (S.seen source.old)) (R.fault_count reader.old) (R.fault_count reader.new) (R.read_count reader.old) (R.read_count reader.new) (reads_left (S.seen source.old)) result }
 {
     for _ in 0..steps {
         if source.here().is_none() {

@@ -1,7 +1,7 @@
 // What is seen of a merge at a number.
 ghost use Rattle.std.specs.Prelude.{◌≡◌, ◌<◌, ◌^◌, length, IsSome, IfOk, IfSome, OnOk, Some, None};
 ghost use Rattle.rk_outside.specs.Causes.{HasSourceCause, RaisesAtMost};
-ghost use Rattle.rk_model.specs.Sources.{Goes, points_below};
+ghost use Rattle.rk_model.specs.Sources.{Goes, points_below, may_name};
 ghost use Rattle.rk_merge.specs.Directions.{MovesOn, go_reads};
 ghost use Rattle.rk_merge.specs.Cuts.{place_near, step_place};
 ghost use Rattle.rk_pointmerge.specs.Views.{viewed, viewing_seen, marked};
@@ -19,7 +19,7 @@ use std::marker::Model;
 const MIDDLE: u64 = 1 << 63;
 
 /// The points that are seen of a merge at a number: of each key its newest entry that is numbered at most so,
-/// where that is a set. It is told where the merge is.
+/// where that is a put. It is told where the merge is.
 ///
 /// What is hidden is passed without a copy. Only the key of what was passed last is kept, in a buffer. On the
 /// way back the newest version of a key is known once it is passed, and then returned to. So what a call may
@@ -101,7 +101,7 @@ fn seek<R: Counting, S: PointSource<R>>(
     ahead: bool,
 ) -> Result<(), SourceError>
     ensures goes { Goes (viewing_seen S.seen visible.old) (viewing_seen S.seen visible.new) (λ es. place_near ahead (points_below key.now es) (length es)) result }
-    ensures cause { HasSourceCause (viewing_seen S.seen visible.old).held (R.fault_count reader.old) (R.fault_count reader.new) result }
+    ensures cause { HasSourceCause (may_name (viewing_seen S.seen visible.old)) (R.fault_count reader.old) (R.fault_count reader.new) result }
     ensures reads { RaisesAtMost (R.read_count reader.old) (R.read_count reader.new) ((viewing_seen S.seen visible.old).seek_reads key.now) }
 {
     visible.mark = None;
@@ -126,7 +126,7 @@ fn step<R: Counting, S: PointSource<R>>(
     requires { IsSome (viewing_seen S.seen visible.old).place }
     ensures goes { Goes (viewing_seen S.seen visible.old) (viewing_seen S.seen visible.new) (λ es. step_place ahead es (viewing_seen S.seen visible.old).place) result }
     ensures moves { OnOk result (MovesOn ahead (viewing_seen S.seen visible.old).place (viewing_seen S.seen visible.new).place) }
-    ensures cause { HasSourceCause (viewing_seen S.seen visible.old).held (R.fault_count reader.old) (R.fault_count reader.new) result }
+    ensures cause { HasSourceCause (may_name (viewing_seen S.seen visible.old)) (R.fault_count reader.old) (R.fault_count reader.new) result }
     ensures reads { RaisesAtMost (R.read_count reader.old) (R.read_count reader.new) (go_reads ahead (viewing_seen S.seen visible.old)) }
 {
     let Some(at) = visible.mark.take() else {

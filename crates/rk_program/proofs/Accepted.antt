@@ -14,13 +14,13 @@ use Rattle.rk_program.proofs.LineLemmas.{snapshot_name, snapshot_number, iterato
 use Rattle.rk_program.proofs.NameLemmas.{same_names}
 use Rattle.rk_program.proofs.Naming.{named-there, named-absent, named_values}
 
-all_three : (a b c : Bool) → (a && b && c) ≡ true → (a ≡ true) × (b ≡ true) × (c ≡ true)
+pub all_three : (a b c : Bool) → (a && b && c) ≡ true → (a ≡ true) × (b ≡ true) × (c ≡ true)
 all_three true true true h = (refl, refl, refl)
 all_three true true false h = cc
 all_three true false c h = cc
 all_three false b c h = cc
 
-not_called : (a : Bool) → not a ≡ true → a ≡ false
+pub not_called : (a : Bool) → not a ≡ true → a ≡ false
 not_called true h = cc
 not_called false h = refl
 

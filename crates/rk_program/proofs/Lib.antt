@@ -6,6 +6,8 @@ mod Examples
 pub mod LineLemmas
 pub mod NameLemmas
 pub mod Naming
+pub mod OneText
 pub mod OutputLemmas
 pub mod SessionLemmas
+pub mod SomeText
 pub mod Transcripts

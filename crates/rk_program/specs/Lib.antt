@@ -3,3 +3,4 @@ pub mod Transcript
 pub mod Input
 pub mod Ends
 pub mod Standing
+pub mod Laws

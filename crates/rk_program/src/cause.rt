@@ -64,7 +64,10 @@ impl fmt::Display for Cause {
 /// How a run ended, and the vault that was handed in.
 #[derive(Debug, Drop)]
 pub struct Ended<V> {
+    /// The exit status, which is that of the cause.
     pub status: u8,
+    /// Why it ended.
     pub cause: Cause,
+    /// The vault, as it was handed in.
     pub vault: V,
 }

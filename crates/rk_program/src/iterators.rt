@@ -4,7 +4,7 @@ ghost use Rattle.rk_model.specs.Moves.{opened_over, after_move, key_at};
 ghost use Rattle.rk_program.specs.Transcript.{move_of};
 
 use rk_key::{Suffix, UserKey};
-use rk_model::{Entry, IterOptions, Plain};
+use rk_model::{Entry, IterOptions, Plain, copy_bound};
 use rk_outside::NoMemory;
 use rk_script::Event;
 use std::alloc::Global;
@@ -25,19 +25,6 @@ pub fn open_over(
         mask: mask.as_ref().map(Suffix::copy),
     };
     Plain::new(alloc, entries, &options)
-}
-
-// A key is refused for want of memory alone.
-fn copy_bound(bound: &Option<UserKey>) -> Result<Option<UserKey>, NoMemory>
-    ensures { IfOk result (λ copied. copied ≡ bound.now) }
-{
-    let Some(key) = bound else {
-        return Ok(None);
-    };
-    match key.copy() {
-        Ok(copied) => Ok(Some(copied)),
-        Err(_) => Err(NoMemory),
-    }
 }
 
 /// Makes the move that a line asks for, and answers whether the iterator is at a key then.

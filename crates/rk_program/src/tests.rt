@@ -188,10 +188,11 @@ fn a_sink_that_fails_keeps_the_replies_before(rt: HostRuntime) -> Result<(), Fai
 }
 
 // Files, the numbers of the sink's last calls, and what was written before those.
-const FINISHED: [(&[u8], &[u64], &[u8]); 3] = [
+const FINISHED: [(&[u8], &[u64], &[u8]); 4] = [
     (b"", &[1], b""),
     (b"snap s", &[2], b"s at 0\n"),
     (b"snap s\nput w a p\nsnap t", &[3], b"s at 0\nt at 0\n"),
+    (TWO_SETS, &[6], TWO_SETS_TOLD),
 ];
 
 #[test]
@@ -205,6 +206,28 @@ fn the_sink_is_finished_behind_the_last_reply(rt: HostRuntime) -> Result<(), Fai
         let faults = 1;
         assert_eq!(rt; ended.cause, Cause::SinkFault { faults });
         assert_eq!(rt; sink.bytes(), told);
+    }
+    Ok(())
+}
+
+// The reads and the calls of the sink that fail, and the cause: a run makes two reads, five writes and then one finish,
+// and none again.
+#[test]
+fn nothing_is_asked_again(rt: HostRuntime) -> Result<(), Fail> {
+    let alloc = rt.alloc();
+    let words = words(alloc, "run")?;
+    let faults = 1;
+    let table: [(&[u64], &[u64], Cause); 4] = [
+        (&[3], &[], Cause::Done),
+        (&[1, 2], &[], Cause::SourceFault { faults }),
+        (&[], &[2, 3, 4], Cause::SinkFault { faults }),
+        (&[], &[7], Cause::Done),
+    ];
+    for (reads, calls, cause) in table {
+        let mut source = SliceSource::new(TWO_SETS, reads);
+        let mut sink = VecSink::new(alloc, calls);
+        let ended = run(alloc, &words, &mut source, &mut sink, ());
+        assert_eq!(rt; ended.cause, cause);
     }
     Ok(())
 }

@@ -4,6 +4,4 @@ pub mod Escapes
 pub mod Naming
 pub mod KeyTests
 pub mod Reading
-pub mod Opening
-pub mod Counts
 pub mod Printing

@@ -19,16 +19,16 @@ pub after_skipped : (n : ℕ) (names : Names) (line : List ℕ) (lines : List (L
 after_skipped n names line lines skipped =
     ap (λ b. cond b (read_from (n + 1) names lines) (with_line n (accepted_event names line) (λ event. read_from (n + 1) (names_after names event) lines))) skipped
 
-at_line : (n : ℕ) (names : Names) (line : List ℕ) (lines : List (List ℕ)) (event : Result Event Why) → is_skipped line ≡ false → event ≡ accepted_event names line → read_from n names (line ∷ lines) ≡ with_line n event (λ event. read_from (n + 1) (names_after names event) lines)
+at_line : (n : ℕ) (names : Names) (line : List ℕ) (lines : List (List ℕ)) (event : Result Event Why) → is_skipped line ≡ false → accepted_event names line ≡ event → read_from n names (line ∷ lines) ≡ with_line n event (λ event. read_from (n + 1) (names_after names event) lines)
 at_line n names line lines event kept is =
     ap (λ b. cond b (read_from (n + 1) names lines) (with_line n (accepted_event names line) (λ event. read_from (n + 1) (names_after names event) lines))) kept
-    ∙ ap (λ e. with_line n e (λ event. read_from (n + 1) (names_after names event) lines)) (sym is)
+    ∙ ap (λ e. with_line n e (λ event. read_from (n + 1) (names_after names event) lines)) is
 
-pub after_event : (front : List Line) (n : ℕ) (names : Names) (line : List ℕ) (lines : List (List ℕ)) (event : Event) → is_skipped line ≡ false → Ok event ≡ accepted_event names line → with_front front (read_from n names (line ∷ lines)) ≡ with_front (front ++ record { number = n; event = event } ∷ []) (read_from (n + 1) (names_after names event) lines)
+pub after_event : (front : List Line) (n : ℕ) (names : Names) (line : List ℕ) (lines : List (List ℕ)) (event : Event) → is_skipped line ≡ false → accepted_event names line ≡ Ok event → with_front front (read_from n names (line ∷ lines)) ≡ with_front (front ++ record { number = n; event = event } ∷ []) (read_from (n + 1) (names_after names event) lines)
 after_event front n names line lines event kept is =
     ap (with_front front) (at_line n names line lines (Ok event) kept is) ∙ sym (one_line front _ _)
 
-pub at_bad_line : (front : List Line) (n : ℕ) (names : Names) (line : List ℕ) (lines : List (List ℕ)) (why : Why) → is_skipped line ≡ false → Err why ≡ accepted_event names line → with_front front (read_from n names (line ∷ lines)) ≡ Err (record { line = n; why = why })
+pub at_bad_line : (front : List Line) (n : ℕ) (names : Names) (line : List ℕ) (lines : List (List ℕ)) (why : Why) → is_skipped line ≡ false → accepted_event names line ≡ Err why → with_front front (read_from n names (line ∷ lines)) ≡ Err (record { line = n; why = why })
 at_bad_line front n names line lines why kept is = ap (with_front front) (at_line n names line lines (Err why) kept is)
 
 -- the rest of the lines, at the line of this turn
@@ -40,12 +40,12 @@ pub skips : (front : List Line) (names : Names) (all : List (List ℕ)) (n k : �
 skips front names all n k line whole counted turn skipped kept =
     ap (with_front front) (sym (ap (read_from (n + 1) names) (at_turn all n k line counted turn) ∙ after_skipped (n + 1) names line (drop (n + 1) all) skipped)) ∙ kept
 
-pub takes : (front items : List Line) (names after : Names) (all : List (List ℕ)) (n k : ℕ) (line : List ℕ) (event : Event) (whole : Result (List Line) BadLine) → n ≡ k → (k < length all) × (line ≡ get_or all k line) → is_skipped line ≡ false → Ok event ≡ accepted_event names line → after ≡ names_after names event → items ≡ front ++ record { number = n + 1; event = event } ∷ [] → with_front front (read_from (n + 1) names (drop n all)) ≡ whole → with_front items (read_from (n + 1 + 1) after (drop (n + 1) all)) ≡ whole
+pub takes : (front items : List Line) (names after : Names) (all : List (List ℕ)) (n k : ℕ) (line : List ℕ) (event : Event) (whole : Result (List Line) BadLine) → n ≡ k → (k < length all) × (line ≡ get_or all k line) → is_skipped line ≡ false → accepted_event names line ≡ Ok event → after ≡ names_after names event → items ≡ front ++ record { number = n + 1; event = event } ∷ [] → with_front front (read_from (n + 1) names (drop n all)) ≡ whole → with_front items (read_from (n + 1 + 1) after (drop (n + 1) all)) ≡ whole
 takes front items names after all n k line event whole counted turn kept is then pushed so_far =
     ap (λ xs. with_front xs (read_from (n + 1 + 1) after (drop (n + 1) all))) pushed ∙ ap (λ ns. with_front (front ++ record { number = n + 1; event = event } ∷ []) (read_from (n + 1 + 1) ns (drop (n + 1) all))) then
     ∙ sym (ap (λ ls. with_front front (read_from (n + 1) names ls)) (at_turn all n k line counted turn) ∙ after_event front (n + 1) names line (drop (n + 1) all) event kept is) ∙ so_far
 
-pub stops : (front : List Line) (names : Names) (all : List (List ℕ)) (n k : ℕ) (line : List ℕ) (why : Why) (whole : Result (List Line) BadLine) → n ≡ k → (k < length all) × (line ≡ get_or all k line) → is_skipped line ≡ false → Err why ≡ accepted_event names line → with_front front (read_from (n + 1) names (drop n all)) ≡ whole → whole ≡ Err (record { line = n + 1; why = why })
+pub stops : (front : List Line) (names : Names) (all : List (List ℕ)) (n k : ℕ) (line : List ℕ) (why : Why) (whole : Result (List Line) BadLine) → n ≡ k → (k < length all) × (line ≡ get_or all k line) → is_skipped line ≡ false → accepted_event names line ≡ Err why → with_front front (read_from (n + 1) names (drop n all)) ≡ whole → whole ≡ Err (record { line = n + 1; why = why })
 stops front names all n k line why whole counted turn kept is so_far =
     sym so_far ∙ ap (λ ls. with_front front (read_from (n + 1) names ls)) (at_turn all n k line counted turn) ∙ at_bad_line front (n + 1) names line (drop (n + 1) all) why kept is
 

@@ -1,5 +1,6 @@
 pub mod Words
 pub mod Checks
+pub mod LineErrors
 pub mod Grammar
 pub mod Seen
 pub mod Naming

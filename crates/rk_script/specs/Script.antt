@@ -1,5 +1,5 @@
 -- Command files: the names that are live, and a whole file.
-use Rattle.std.specs.Prelude.{◌≡◌, ℕ, ◌+◌, nat_lt, Bool, true, not, ◌&&◌, ◌||◌, List, [], ◌∷◌, ◌++◌, length, if◌then◌else◌, Result, Ok, Err}
+use Rattle.std.specs.Prelude.{◌≡◌, ℕ, ◌+◌, nat_lt, Bool, true, not, ◌&&◌, ◌||◌, List, [], ◌∷◌, ◌++◌, length, if◌then◌else◌, Option, Some, None, Result, Ok, Err}
 use Rattle.std.specs.List.{list_all}
 use Rattle.std.specs.Option.{option_map_or}
 use Rattle.rk_script.specs.Checks.{Check, checked}
@@ -32,15 +32,18 @@ pub record Names : Type 0 where
 abbrev pub no_names : Names
 no_names = record { writers = []; iterators = []; snapshots = [] }
 
+-- the writer whose batch a line adds to or commits
+abbrev pub writer_of : Event → Option (List ℕ)
+writer_of (Put writer key value) = Some writer
+writer_of (Del writer key) = Some writer
+writer_of (RangeSet writer start end suffix value) = Some writer
+writer_of (RangeUnset writer start end suffix) = Some writer
+writer_of (RangeDel writer start end) = Some writer
+writer_of (Commit writer) = Some writer
+writer_of _ = None
+
 -- whether each iterator and snapshot that a line uses is live
 abbrev pub are_live : Names → Event → Bool
-are_live names (Put writer key value) = true
-are_live names (Del writer key) = true
-are_live names (RangeSet writer start end suffix value) = true
-are_live names (RangeUnset writer start end suffix) = true
-are_live names (RangeDel writer start end) = true
-are_live names (Commit writer) = true
-are_live names (Snap name) = true
 are_live names (Release name) = is_called name names.snapshots
 are_live names (Iter name at lower upper mask) = option_map_or (λ snapshot. is_called snapshot names.snapshots) at true
 are_live names (First iter) = is_called iter names.iterators
@@ -50,6 +53,7 @@ are_live names (Prev iter) = is_called iter names.iterators
 are_live names (SeekGe iter key) = is_called iter names.iterators
 are_live names (SeekLt iter key) = is_called iter names.iterators
 are_live names (Close iter) = is_called iter names.iterators
+are_live names _ = true
 
 -- whether the name of a snapshot or an iterator that a line makes is free
 abbrev pub is_free : Names → Event → Bool
@@ -62,15 +66,9 @@ has_room_for writer writers = is_called writer writers || nat_lt (length writers
 
 -- whether there are no more names than there may be after a line
 abbrev pub has_room : Names → Event → Bool
-has_room names (Put writer key value) = has_room_for writer names.writers
-has_room names (Del writer key) = has_room_for writer names.writers
-has_room names (RangeSet writer start end suffix value) = has_room_for writer names.writers
-has_room names (RangeUnset writer start end suffix) = has_room_for writer names.writers
-has_room names (RangeDel writer start end) = has_room_for writer names.writers
-has_room names (Commit writer) = has_room_for writer names.writers
 has_room names (Snap name) = nat_lt (length names.snapshots) most_snapshots
 has_room names (Iter name at lower upper mask) = nat_lt (length names.iterators) most_iterators
-has_room names _ = true
+has_room names event = option_map_or (λ writer. has_room_for writer names.writers) (writer_of event) true
 
 -- whether the live names let a line stand
 abbrev pub is_accepted : Names → Event → Bool
@@ -84,17 +82,11 @@ with_writer writer names = record names { writers = with_name writer names.write
 
 -- the names that are live after a line
 abbrev pub names_after : Names → Event → Names
-names_after names (Put writer key value) = with_writer writer names
-names_after names (Del writer key) = with_writer writer names
-names_after names (RangeSet writer start end suffix value) = with_writer writer names
-names_after names (RangeUnset writer start end suffix) = with_writer writer names
-names_after names (RangeDel writer start end) = with_writer writer names
-names_after names (Commit writer) = with_writer writer names
 names_after names (Snap name) = record names { snapshots = names.snapshots ++ name ∷ [] }
 names_after names (Release name) = record names { snapshots = without_name name names.snapshots }
 names_after names (Iter name at lower upper mask) = record names { iterators = names.iterators ++ name ∷ [] }
 names_after names (Close iter) = record names { iterators = without_name iter names.iterators }
-names_after names _ = names
+names_after names event = option_map_or (λ writer. with_writer writer names) (writer_of event) names
 
 -- what a line that isn't skipped asks for, where the live names let it stand
 abbrev pub accepted_event : Names → List ℕ → Result Event Why

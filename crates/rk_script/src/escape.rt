@@ -1,8 +1,12 @@
 // Words for bytes.
-ghost use Rattle.std.specs.Prelude.{◌≡◌, ◌<◌, ◌++◌, take, IfOk, OnOk, OnErr, IfSome, length, vec_len, option_map, option_and_then};
-ghost use Rattle.rk_script.specs.Words.{hex_digit, hex_value, hex_byte, is_plain, escaped_byte, escaped_bytes, escaped, unescaped, unescaped_bytes, byte_before};
+ghost use Rattle.std.specs.Prelude.{◌≡◌, ◌<◌, ◌++◌, take, OnOk, OnErr, IfSome, length, vec_len, option_map, option_and_then};
+ghost use Rattle.rk_script.specs.Words.{hex_digit, hex_value, hex_byte, is_plain, escaped_byte, escaped_bytes, escaped, unescaped_bytes, byte_before};
+ghost use Rattle.rk_script.specs.Grammar.{bytes_of};
+ghost use Rattle.rk_script.specs.LineErrors.{Reads};
 ghost use Rattle.rk_script.specs.Laws.{ReadsBackWhatIsPrinted};
 
+use crate::Why;
+use crate::error::Read;
 use crate::words::is_word;
 use rk_outside::{Bytes, NoMemory};
 use std::alloc::{AllocError, Global};
@@ -46,23 +50,21 @@ pub fn reads_back_what_is_printed()
     ensures { ReadsBackWhatIsPrinted }
 {}
 
-/// The bytes that a word stands for, if it is one for bytes.
-pub(crate) fn unescape(alloc: Global, word: &[u8]) -> Result<Option<Bytes>, NoMemory>
-    ensures { IfOk result (λ bytes. bytes ≡ unescaped word.now) }
+/// The bytes that a word stands for.
+pub(crate) fn unescape(alloc: Global, word: &[u8]) -> Read<Bytes>
+    ensures { Reads result (bytes_of word.now) }
 {
     if is_word(word, b"%-") {
-        return Ok(Some(Bytes::from_vec(Vec::new(alloc))));
+        return Ok(Bytes::from_vec(Vec::new(alloc)));
     }
     let mut bytes = Vec::new(alloc);
     let mut rest = word;
     while !rest.is_empty() {
-        let Some((byte, after)) = first_byte(rest) else {
-            return Ok(None);
-        };
+        let (byte, after) = first_byte(rest).ok_or(Why::Escape)?;
         bytes.push(byte)?;
         rest = after;
     }
-    Ok(Some(Bytes::from_vec(bytes)))
+    Ok(Bytes::from_vec(bytes))
 }
 
 /// The byte that a word begins with, and what stands behind it.

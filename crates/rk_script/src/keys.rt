@@ -1,41 +1,42 @@
 // Keys and masks in the words of a line.
-ghost use Rattle.std.specs.Prelude.{◌≡◌, IfOk, Some, None, if◌then◌else◌};
-ghost use Rattle.rk_key.specs.KeyTests.{is_suffix, is_key};
-ghost use Rattle.rk_script.specs.Words.{is_mask};
+ghost use Rattle.std.specs.Prelude.{Ok, Err, if◌then◌else◌};
+ghost use Rattle.rk_key.specs.KeyTests.{is_suffix};
+ghost use Rattle.rk_script.specs.Grammar.{key_of, mask_of};
+ghost use Rattle.rk_script.specs.LineErrors.{Reads};
 
+use crate::Why;
+use crate::error::{LineError, Read};
 use rk_key::{KeyError, Suffix, UserKey, read_key, read_suffix};
-use rk_outside::NoMemory;
 use std::alloc::Global;
 
-/// A key, if the bytes are one.
-pub(crate) fn key_of(alloc: Global, bytes: &[u8]) -> Result<Option<UserKey>, NoMemory>
-    ensures { IfOk result (λ key. key ≡ (if is_key bytes.now then Some bytes.now else None)) }
+/// The key that the bytes are.
+pub(crate) fn key_of(alloc: Global, bytes: &[u8]) -> Read<UserKey>
+    ensures { Reads result (key_of bytes.now) }
 {
     match read_key(alloc, bytes) {
-        Ok(key) => Ok(Some(key)),
-        Err(KeyError::BadKey { .. }) => Ok(None),
-        Err(KeyError::Memory) => Err(NoMemory),
+        Ok(key) => Ok(key),
+        Err(KeyError::BadKey { .. }) => Err(LineError::Bad(Why::Key)),
+        Err(KeyError::Memory) => Err(LineError::Memory),
     }
 }
 
-/// A suffix that is not empty, if the bytes are one.
-pub(crate) fn mask_of(alloc: Global, bytes: &[u8]) -> Result<Option<Suffix>, NoMemory>
-    ensures { IfOk result (λ mask. mask ≡ (if is_mask bytes.now then Some bytes.now else None)) }
+/// The suffix that the bytes are, which is not empty.
+pub(crate) fn mask_of(alloc: Global, bytes: &[u8]) -> Read<Suffix>
+    ensures { Reads result (mask_of bytes.now) }
 {
     if bytes.is_empty() {
-        return Ok(None);
+        return Err(LineError::Bad(Why::Suffix));
     }
     suffix_of(alloc, bytes)
 }
 
-/// A suffix, if the bytes are one.
-fn suffix_of(alloc: Global, bytes: &[u8]) -> Result<Option<Suffix>, NoMemory>
-    ensures { IfOk result
-        (λ suffix. suffix ≡ (if is_suffix bytes.now then Some bytes.now else None)) }
+/// The suffix that the bytes are.
+fn suffix_of(alloc: Global, bytes: &[u8]) -> Read<Suffix>
+    ensures { Reads result (if is_suffix bytes.now then Ok bytes.now else Err Why.Suffix) }
 {
     match read_suffix(alloc, bytes) {
-        Ok(suffix) => Ok(Some(suffix)),
-        Err(KeyError::BadKey { .. }) => Ok(None),
-        Err(KeyError::Memory) => Err(NoMemory),
+        Ok(suffix) => Ok(suffix),
+        Err(KeyError::BadKey { .. }) => Err(LineError::Bad(Why::Suffix)),
+        Err(KeyError::Memory) => Err(LineError::Memory),
     }
 }

@@ -67,15 +67,7 @@ impl LiveNames {
         ensures { result ≡ are_live self.now event.now }
     {
         match event {
-            Event::Put { .. }
-            | Event::Del { .. }
-            | Event::RangeSet { .. }
-            | Event::RangeUnset { .. }
-            | Event::RangeDel { .. }
-            | Event::Commit { .. }
-            | Event::Snap { .. } => true,
             Event::Release { name } => is_called(name.bytes(), &self.snapshots),
-            Event::Iter { at: None, .. } => true,
             Event::Iter { at: Some(at), .. } => is_called(at.bytes(), &self.snapshots),
             Event::First { iter }
             | Event::Last { iter }
@@ -84,6 +76,7 @@ impl LiveNames {
             | Event::SeekGe { iter, .. }
             | Event::SeekLt { iter, .. }
             | Event::Close { iter } => is_called(iter.bytes(), &self.iterators),
+            _ => true,
         }
     }
 
@@ -103,15 +96,12 @@ impl LiveNames {
         ensures { result ≡ has_room self.now event.now }
     {
         match event {
-            Event::Put { writer, .. }
-            | Event::Del { writer, .. }
-            | Event::RangeSet { writer, .. }
-            | Event::RangeUnset { writer, .. }
-            | Event::RangeDel { writer, .. }
-            | Event::Commit { writer } => has_room_for(writer.bytes(), &self.writers),
             Event::Snap { .. } => self.snapshots.len() < MOST_SNAPSHOTS,
             Event::Iter { .. } => self.iterators.len() < MOST_ITERATORS,
-            _ => true,
+            _ => match event.writer() {
+                Some(writer) => has_room_for(writer.bytes(), &self.writers),
+                None => true,
+            },
         }
     }
 
@@ -120,17 +110,14 @@ impl LiveNames {
         ensures { OnOk result (self.new ≡ names_after self.old event.now) }
     {
         match event {
-            Event::Put { writer, .. }
-            | Event::Del { writer, .. }
-            | Event::RangeSet { writer, .. }
-            | Event::RangeUnset { writer, .. }
-            | Event::RangeDel { writer, .. }
-            | Event::Commit { writer } => add_name(&mut self.writers, writer),
             Event::Snap { name } => Ok(self.snapshots.push(name.copy()?)?),
             Event::Release { name } => Ok(remove_name(&mut self.snapshots, name.bytes())),
             Event::Iter { name, .. } => Ok(self.iterators.push(name.copy()?)?),
             Event::Close { iter } => Ok(remove_name(&mut self.iterators, iter.bytes())),
-            _ => Ok(()),
+            _ => match event.writer() {
+                Some(writer) => add_name(&mut self.writers, writer),
+                None => Ok(()),
+            },
         }
     }
 }

@@ -1,8 +1,10 @@
 // A whole file.
 ghost use Rattle.std.specs.Prelude.{◌≡◌, IfOk, IfErr, Ok};
+ghost use Rattle.rk_script.specs.LineErrors.{Reads};
 ghost use Rattle.rk_script.specs.Script.{accepted_event, script, IsScriptRefusal};
 
-use crate::grammar::{Read, event_of};
+use crate::error::{LineError, Read};
+use crate::grammar::event_of;
 use crate::names::LiveNames;
 use crate::words::{is_printable, is_skipped, words};
 use crate::{Event, Line, ScriptError, Why};
@@ -26,27 +28,24 @@ pub fn read_script(alloc: Global, bytes: &[u8]) -> Result<Vec<Line>, ScriptError
         if is_skipped(line) {
             continue;
         }
-        match accepted_event(alloc, &names, line)? {
-            Ok(event) => {
-                names.add(&event)?;
-                lines.push(Line { number, event })?;
-            }
-            Err(why) => return Err(ScriptError::BadLine { line: number, why }),
-        }
+        let event = match accepted_event(alloc, &names, line) {
+            Ok(event) => event,
+            Err(LineError::Memory) => return Err(ScriptError::Memory),
+            Err(LineError::Bad(why)) => return Err(ScriptError::BadLine { line: number, why }),
+        };
+        names.add(&event)?;
+        lines.push(Line { number, event })?;
     }
     Ok(lines)
 }
 
 /// What a line asks for, where the live names let it stand.
 fn accepted_event(alloc: Global, names: &LiveNames, line: &[u8]) -> Read<Event>
-    ensures { IfOk result (λ event. event ≡ accepted_event names.now line.now) }
+    ensures { Reads result (accepted_event names.now line.now) }
 {
     if !is_printable(line) {
-        return Ok(Err(Why::Byte));
+        return Err(LineError::Bad(Why::Byte));
     }
     let words = words(alloc, line)?;
-    match event_of(alloc, &words)? {
-        Ok(event) => Ok(names.check(event)),
-        Err(why) => Ok(Err(why)),
-    }
+    Ok(names.check(event_of(alloc, &words)?)?)
 }

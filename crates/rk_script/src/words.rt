@@ -2,8 +2,13 @@
 ghost use Rattle.std.specs.Prelude.{◌≡◌, ◌==◌, IfOk, map};
 ghost use Rattle.std.specs.List.{list_all};
 ghost use Rattle.rk_model.specs.Spans.{same_bytes};
+ghost use Rattle.rk_script.specs.Grammar.{name_of};
+ghost use Rattle.rk_script.specs.LineErrors.{Reads};
 ghost use Rattle.rk_script.specs.Words.{words, space, is_skipped, is_printable, is_name, is_name_byte};
 
+use crate::Why;
+use crate::error::{LineError, Read};
+use rk_outside::Bytes;
 use std::alloc::{AllocError, Global};
 
 /// The words of a line, which stand between spaces.
@@ -38,8 +43,19 @@ pub(crate) fn is_printable(line: &[u8]) -> bool
     line.iter().all(|byte| matches!(*byte, b' '..=b'~'))
 }
 
+/// The name that a word is.
+pub(crate) fn name_of(alloc: Global, word: &[u8]) -> Read<Bytes>
+    ensures { Reads result (name_of word.now) }
+{
+    if is_name(word) {
+        Ok(Bytes::from_slice(alloc, word)?)
+    } else {
+        Err(LineError::Bad(Why::Name))
+    }
+}
+
 /// Whether a word is a name: 1 to 32 lower-case letters, digits and `_`, the first a letter.
-pub(crate) fn is_name(word: &[u8]) -> bool
+fn is_name(word: &[u8]) -> bool
     ensures { result ≡ is_name word.now }
 {
     match word {

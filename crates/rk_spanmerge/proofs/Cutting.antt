@@ -11,11 +11,10 @@ use Rattle.rk_key.specs.Laws.{key_cmp-total}
 use Rattle.rk_key.proofs.Equality.{same_key_from_eq}
 use Rattle.rk_key.proofs.TotalOrders.{lt_trans, lt_ge, ge_trans}
 use Rattle.rk_model.specs.Operations.{within}
-use Rattle.rk_model.specs.Spans.{sorted_keys, same_bytes}
+use Rattle.rk_model.specs.Spans.{sorted_keys, same_bytes, KeysRise}
 use Rattle.rk_model.specs.declared.span.RangeKey.{RangeKey}
 use Rattle.rk_model.specs.declared.span.Span.{Span}
 use Rattle.rk_fragment.specs.Fragments.{keys_over, newest_first, span_with, spans_between}
-use Rattle.rk_fragment.specs.Intervals.{Rises}
 use Rattle.rk_fragment.proofs.Rising.{sorted_rises}
 use Rattle.rk_merge.specs.Unions.{Among}
 use Rattle.rk_fragment.proofs.Falling.{newest_falls}
@@ -75,14 +74,14 @@ same_within (s ∷ ss) x y h =
     ∙ sym (keys_over_cons s ss y)
 
 module _ (keys : List ℕ → List RangeKey) (x : List ℕ) where
-  below_all : (b : List ℕ) (bs : List (List ℕ)) → Rises (b ∷ bs) → lt x b ≡ true → keys_over (spans_between keys (b ∷ bs)) x ≡ []
+  below_all : (b : List ℕ) (bs : List (List ℕ)) → KeysRise (b ∷ bs) → lt x b ≡ true → keys_over (spans_between keys (b ∷ bs)) x ≡ []
   below_all b [] h l = refl
   below_all b (c ∷ cs) h l =
       over_one b c (keys b) (spans_between keys (c ∷ cs)) x
       ∙ ap (λ w. cond w (keys b) [] ++ keys_over (spans_between keys (c ∷ cs)) x) (outside_start (lt x b) (lt x c) l)
       ∙ below_all c cs h.1 (lt_trans key_cmp-total x b c l h.0.0)
 
-  from_end : (a : List ℕ) (rest : List (List ℕ)) → Rises (a ∷ rest) → lt x a ≡ false → ((b c : List ℕ) → IsNext (a ∷ rest) b c → lt x b ≡ false → lt x c ≡ true → keys b ≡ keys x) → (((k : List ℕ) → Among k (a ∷ rest) → lt x k ≡ false) → [] ≡ keys x) → keys_over (spans_between keys (a ∷ rest)) x ≡ keys x
+  from_end : (a : List ℕ) (rest : List (List ℕ)) → KeysRise (a ∷ rest) → lt x a ≡ false → ((b c : List ℕ) → IsNext (a ∷ rest) b c → lt x b ≡ false → lt x c ≡ true → keys b ≡ keys x) → (((k : List ℕ) → Among k (a ∷ rest) → lt x k ≡ false) → [] ≡ keys x) → keys_over (spans_between keys (a ∷ rest)) x ≡ keys x
   from_end a [] h g mid top = top (λ k m. only k m)
     where
       only : (k : List ℕ) → Among k (a ∷ []) → lt x k ≡ false
@@ -111,7 +110,7 @@ each_key ss x distinct = go (sorted_keys (span_ends ss)) (sorted_rises (span_end
     no_keys : ((t : Span) → Among t ss → within t.start t.end x ≡ false) → [] ≡ keys_at ss x
     no_keys h = ap newest_first (sym (none_over x ss h))
 
-    go : (es : List (List ℕ)) → Rises es → ((k : List ℕ) → Among k (span_ends ss) → Among k es) → keys_over (spans_between (keys_at ss) es) x ≡ keys_at ss x
+    go : (es : List (List ℕ)) → KeysRise es → ((k : List ℕ) → Among k (span_ends ss) → Among k es) → keys_over (spans_between (keys_at ss) es) x ≡ keys_at ss x
     go [] h has = no_keys (λ t m. absurd (has t.start (ends_in ss t m).0))
     go (a ∷ rest) h has = pick (lt x a) refl
       where

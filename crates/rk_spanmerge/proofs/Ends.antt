@@ -8,11 +8,10 @@ use Rattle.rk_key.specs.Keys.{key_cmp}
 use Rattle.rk_key.specs.Laws.{key_cmp-total}
 use Rattle.rk_key.proofs.TotalOrders.{lt_itself, lt_back, lt_trans}
 use Rattle.rk_model.specs.Lists.{none_of}
-use Rattle.rk_model.specs.Spans.{sorted_keys, same_bytes}
+use Rattle.rk_model.specs.Spans.{sorted_keys, same_bytes, KeysRise}
 use Rattle.rk_model.specs.declared.span.RangeKey.{RangeKey}
 use Rattle.rk_model.specs.declared.span.Span.{Span}
 use Rattle.rk_fragment.specs.Fragments.{span_with, spans_between}
-use Rattle.rk_fragment.specs.Intervals.{Rises}
 use Rattle.rk_merge.specs.Unions.{Among}
 use Rattle.rk_model.proofs.Members.{among_all, every_gives}
 use Rattle.rk_model.proofs.SortedKeys.{sorted_among, among_sorted}
@@ -43,7 +42,7 @@ sorted_has xs all k m =
     rw e t.1.0
 
 -- keys of a rising list that no order tells apart are one
-pub rising_same : (es : List (List ℕ)) → Rises es → (a b : List ℕ) → Among a es → Among b es → lt a b ≡ false → lt b a ≡ false → a ≡ b
+pub rising_same : (es : List (List ℕ)) → KeysRise es → (a b : List ℕ) → Among a es → Among b es → lt a b ≡ false → lt b a ≡ false → a ≡ b
 rising_same [] h a b m n p q = absurd m
 rising_same (x ∷ xs) h a b (inl e) (inl f) p q = e ∙ sym f
 rising_same (x ∷ xs) h a b (inl e) (inr n) p q = let w : lt a b ≡ true = ap (λ z. lt z b) e ∙ among_all (λ y. lt x y ≡ true) xs b h.0 n in cc
@@ -57,7 +56,7 @@ pub record IsNext (es : List (List ℕ)) (q c : List ℕ) : Type 0 where
   pub less : lt q c ≡ true
   pub first : (k : List ℕ) → Among k es → lt q k ≡ true → lt k c ≡ false
 
-next_tail : (a : List ℕ) (es : List (List ℕ)) → Rises (a ∷ es) → (q c : List ℕ) → Among q es → IsNext (a ∷ es) q c → IsNext es q c
+next_tail : (a : List ℕ) (es : List (List ℕ)) → KeysRise (a ∷ es) → (q c : List ℕ) → Among q es → IsNext (a ∷ es) q c → IsNext es q c
 next_tail a es h q c m n = record { at = m; to = go n.to; less = n.less; first = λ k i l. n.first k (inr i) l }
   where
     go : Among c (a ∷ es) → Among c es
@@ -66,7 +65,7 @@ next_tail a es h q c m n = record { at = m; to = go n.to; less = n.less; first =
         absurd (true_false _ n.less (lt_back key_cmp-total c q w))
     go (inr i) = i
 
-pub next_more : (a : List ℕ) (es : List (List ℕ)) → Rises (a ∷ es) → (q c : List ℕ) → IsNext es q c → IsNext (a ∷ es) q c
+pub next_more : (a : List ℕ) (es : List (List ℕ)) → KeysRise (a ∷ es) → (q c : List ℕ) → IsNext es q c → IsNext (a ∷ es) q c
 next_more a es h q c n = record { at = inr n.at; to = inr n.to; less = n.less; first = go }
   where
     go : (k : List ℕ) → Among k (a ∷ es) → lt q k ≡ true → lt k c ≡ false
@@ -76,7 +75,7 @@ next_more a es h q c n = record { at = inr n.at; to = inr n.to; less = n.less; f
     go k (inr i) l = n.first k i l
 
 -- the second key is next to the first
-pub next_first : (a b : List ℕ) (bs : List (List ℕ)) → Rises (a ∷ b ∷ bs) → IsNext (a ∷ b ∷ bs) a b
+pub next_first : (a b : List ℕ) (bs : List (List ℕ)) → KeysRise (a ∷ b ∷ bs) → IsNext (a ∷ b ∷ bs) a b
 next_first a b bs h = record { at = inl refl; to = inr (inl refl); less = h.0.0; first = go }
   where
     go : (k : List ℕ) → Among k (a ∷ b ∷ bs) → lt a k ≡ true → lt k b ≡ false
@@ -85,7 +84,7 @@ next_first a b bs h = record { at = inl refl; to = inr (inl refl); less = h.0.0;
     go k (inr (inr i)) l = lt_back key_cmp-total b k (among_all (λ y. lt b y ≡ true) bs k h.1.0 i)
 
 -- and no other is
-next_is : (a b : List ℕ) (bs : List (List ℕ)) → Rises (a ∷ b ∷ bs) → (c : List ℕ) → IsNext (a ∷ b ∷ bs) a c → c ≡ b
+next_is : (a b : List ℕ) (bs : List (List ℕ)) → KeysRise (a ∷ b ∷ bs) → (c : List ℕ) → IsNext (a ∷ b ∷ bs) a c → c ≡ b
 next_is a b bs h c n = go n.to
   where
     go : Among c (a ∷ b ∷ bs) → c ≡ b
@@ -94,7 +93,7 @@ next_is a b bs h c n = go n.to
     go (inr (inr i)) = let w : lt b c ≡ true = among_all (λ y. lt b y ≡ true) bs c h.1.0 i in absurd (true_false _ w (n.first b (inr (inl refl)) h.0.0))
 
 -- the spans between neighbours
-pub between_next : (keys : List ℕ → List RangeKey) (es : List (List ℕ)) → Rises es → (c : Span) → Among c (spans_between keys es) → IsNext es c.start c.end × (c.keys ≡ keys c.start) × (none_of c.keys ≡ false)
+pub between_next : (keys : List ℕ → List RangeKey) (es : List (List ℕ)) → KeysRise es → (c : Span) → Among c (spans_between keys es) → IsNext es c.start c.end × (c.keys ≡ keys c.start) × (none_of c.keys ≡ false)
 between_next keys [] h c m = absurd m
 between_next keys (a ∷ []) h c m = absurd m
 between_next keys (a ∷ b ∷ bs) h c m = go (keys a) refl m (between_next keys (b ∷ bs) h.1 c)
@@ -125,7 +124,7 @@ module _ (keys : List ℕ → List RangeKey) (x : List ℕ) where
   abbrev pub Quiet : List (List ℕ) → List ℕ → Type 0
   Quiet es q = (a b : List ℕ) → IsNext es a b → lt a q ≡ true → lt x b ≡ true → none_of (keys a) ≡ true
 
-  pub first_at : (es : List (List ℕ)) → Rises es → (q c : List ℕ) → IsNext es q c → lt x c ≡ true → none_of (keys q) ≡ false → Quiet es q → first_behind (takes true x) (spans_between keys es) ≡ Some (span_at q c)
+  pub first_at : (es : List (List ℕ)) → KeysRise es → (q c : List ℕ) → IsNext es q c → lt x c ≡ true → none_of (keys q) ≡ false → Quiet es q → first_behind (takes true x) (spans_between keys es) ≡ Some (span_at q c)
   first_at [] h q c n l k quiet = absurd n.at
   first_at (a ∷ []) h q c n l k quiet = go n.at n.to
     where
@@ -179,7 +178,7 @@ module _ (keys : List ℕ → List RangeKey) (x : List ℕ) where
       go true e = inl (h a (inl refl) e)
       go false e = inr e
 
-  pub last_at : (es : List (List ℕ)) → Rises es → (q c : List ℕ) → IsNext es q c → lt q x ≡ true → none_of (keys q) ≡ false → ((a : List ℕ) → Among a es → lt q a ≡ true → lt a x ≡ true → none_of (keys a) ≡ true) → last_before (takes false x) (spans_between keys es) ≡ Some (span_at q c)
+  pub last_at : (es : List (List ℕ)) → KeysRise es → (q c : List ℕ) → IsNext es q c → lt q x ≡ true → none_of (keys q) ≡ false → ((a : List ℕ) → Among a es → lt q a ≡ true → lt a x ≡ true → none_of (keys a) ≡ true) → last_before (takes false x) (spans_between keys es) ≡ Some (span_at q c)
   last_at [] h q c n l k quiet = absurd n.at
   last_at (a ∷ []) h q c n l k quiet = go n.at n.to
     where

@@ -1,10 +1,11 @@
 -- Worked examples: what the definitions give on short lists of spans. Each is computed.
 use Rattle.std.proofs.Common.{◌≡◌, true, false, length, ℕ, List, [], ◌∷◌, Some, None, refl}
-use Rattle.std.specs.Prelude.{codes}
+use Rattle.std.specs.Prelude.{codes, nat_eq, ◌&&◌}
 use Rattle.rk_model.specs.declared.span.RangeKey.{RangeKey}
 use Rattle.rk_model.specs.declared.span.RangeKind.TheVariants.{Del}
-use Rattle.rk_model.specs.Sources.{Seen, in_memory, sound_spans}
+use Rattle.rk_model.specs.Sources.{Seen, in_memory, may_name, sound_spans}
 use Rattle.rk_model.specs.declared.span.Span.{Span}
+use Rattle.rk_merge.proofs.Costs.{costly}
 use Rattle.rk_spanmerge.specs.Merges.{cut_spans, united, merged, merged_steps, merged_turn}
 
 abbrev key : ℕ → RangeKey
@@ -47,19 +48,22 @@ one_number_twice = refl
 its_second_place : (merged (λ spans. in_memory 1 (sound_spans spans) None) (lists 2) (Some (span (codes "b") (codes "c") (key 2 ∷ key 1 ∷ []))) true 0).place ≡ Some 1
 its_second_place = refl
 
--- what the merge reads where a seek reads ten, a step one, and a turn two more
+-- beside a source whose file is damaged nothing is told, and that place alone of that file may be named
+abbrev damaged : Seen Span
+damaged = record (in_memory 1 None None) { bad = λ file at. nat_eq file 16 && nat_eq at 49 }
+
+abbrev beside_damaged : Seen Span
+beside_damaged = merged (λ s. s) (in_memory 0 (sound_spans []) None ∷ damaged ∷ []) None true 0
+
+the_damaged_place_is_named : may_name beside_damaged 16 49 ≡ true
+the_damaged_place_is_named = refl
+
+no_other_place_is_named : may_name beside_damaged 16 48 ≡ false
+no_other_place_is_named = refl
+
+-- what the merge reads
 abbrev dear : List Span → Seen Span
-dear spans = record {
-  held = sound_spans spans;
-  place = None;
-  count = length spans;
-  seek_reads = λ key. 10;
-  seek_most = 10;
-  step_reads = λ gap. 1;
-  turn_reads = λ place. 2;
-  turn_to_next = 0;
-  turn_to_prev = 0;
-}
+dear spans = costly (length spans) (sound_spans spans)
 
 -- The gap at b is crossed back by a step of the second source, and the one at c ahead by one of the first. Each may
 -- be a turn of that source.

@@ -5,12 +5,11 @@ use Rattle.rk_key.specs.Laws.{key_cmp-total}
 use Rattle.rk_key.proofs.TotalOrders.{lt_itself, lt_back, lt_trans, lt_ge, ge_lt, ge_trans}
 use Rattle.rk_model.specs.Lists.{none_of}
 use Rattle.rk_model.specs.Operations.{within}
-use Rattle.rk_model.specs.Spans.{sorted_keys}
+use Rattle.rk_model.specs.Spans.{sorted_keys, KeysRise}
 use Rattle.rk_model.specs.Sources.{item_at}
 use Rattle.rk_model.specs.declared.span.RangeKey.{RangeKey}
 use Rattle.rk_model.specs.declared.span.Span.{Span}
 use Rattle.rk_fragment.specs.Fragments.{insert_newest, newest_first, keys_over}
-use Rattle.rk_fragment.specs.Intervals.{Rises}
 use Rattle.rk_fragment.proofs.Rising.{sorted_rises}
 use Rattle.rk_merge.specs.Unions.{Among}
 use Rattle.rk_merge.specs.Cuts.{near_cut, place_near}
@@ -73,7 +72,7 @@ module _ (pool : List Span) (distinct : are_distinct (span_ends pool) ≡ true) 
   abbrev es : List (List ℕ)
   es = sorted_keys (span_ends pool)
 
-  rises : Rises es
+  rises : KeysRise es
   rises = sorted_rises (span_ends pool)
 
   has : (k : List ℕ) → Among k (span_ends pool) → Among k es

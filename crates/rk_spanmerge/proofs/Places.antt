@@ -19,7 +19,7 @@ use Rattle.rk_merge.specs.Cuts.{near_cut, place_near, step_place}
 use Rattle.rk_merge.proofs.Cuts.{near_item, near_is, rank_item, rank_within, cut_within, cut_none, behind_some, behind_none, before_suc}
 use Rattle.rk_spanmerge.specs.Merges.{Merging, merging_seen, merged, merged_count, merged_seek, merged_steps, merged_turn, turn_from, step_most, on_reads, back_reads, left_end, span_place, united}
 use Rattle.rk_merge.specs.Several.{all_rest, total}
-use Rattle.rk_merge.proofs.Several.{rest_total}
+use Rattle.rk_merge.proofs.Several.{rest_any, rest_total}
 use Rattle.rk_spanmerge.specs.Moves.{lt, takes, Arrives, IsMerging, CountsOn}
 use Rattle.rk_spanmerge.proofs.Sources.{rest_united, rest_most}
 use Rattle.rk_spanmerge.proofs.Chains.{Chain, chain_of, behind, proper_of}
@@ -134,6 +134,7 @@ module _ {S : Type 0} (seen : S → Seen Span) (sorted : (ss : List S) → IfSom
       let r : merged_seek seen news ≡ merged_seek seen olds = ap (λ t. 3 * t) (rest_most seen news olds e) in
       record {
         held_is = u;
+        bad_is = rest_any seen news olds e;
         count_is = ap merged_count u;
         seek_is = ap (λ n. λ (key : List ℕ). n) r;
         most_is = r;

@@ -10,7 +10,7 @@ use Rattle.rk_model.specs.declared.span.RangeKey.{RangeKey}
 use Rattle.rk_model.specs.declared.span.Span.{Span}
 use Rattle.rk_model.specs.Reads.{sum_to}
 use Rattle.rk_fragment.specs.Fragments.{newest_first, spans_between, keys_over, KeysDiffer}
-use Rattle.rk_merge.specs.Several.{total}
+use Rattle.rk_merge.specs.Several.{total, any_names}
 
 -- the starts and ends of spans
 abbrev pub span_ends : List Span → List (List ℕ)
@@ -35,7 +35,8 @@ told_items s = unwrap_or s.held []
 abbrev pub pooled : {S : Type 0} → (S → Seen Span) → List S → List Span
 pooled seen ss = flat_map (λ s. told_items (seen s)) ss
 
--- The merge's list, where each source is told, and no two range keys over one key have one number.
+-- The merge's list, where each source is told, no order takes two ends for one, and no two range keys over one key
+-- have one number.
 abbrev pub united : {S : Type 0} → (S → Seen Span) → List S → Option (List Span)
 united seen ss =
     if list_all (λ s. is_some (seen s).held) ss && are_distinct (span_ends (pooled seen ss)) then sound_spans (cut_spans (pooled seen ss)) else None
@@ -112,6 +113,7 @@ merged_place held current steps = option_map (span_place held steps) current
 abbrev pub merged : {S : Type 0} → (S → Seen Span) → List S → Option Span → Bool → ℕ → Seen Span
 merged seen ss current ahead steps = record {
   held = united seen ss;
+  bad = any_names seen ss;
   place = merged_place (united seen ss) current steps;
   count = merged_count (united seen ss);
   seek_reads = λ key. merged_seek seen ss;

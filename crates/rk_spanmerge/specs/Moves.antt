@@ -11,7 +11,7 @@ use Rattle.rk_model.specs.declared.span.RangeKey.{RangeKey}
 use Rattle.rk_model.specs.declared.span.Span.{Span}
 use Rattle.rk_fragment.specs.Fragments.{insert_newest}
 use Rattle.rk_merge.specs.Unions.{Among}
-use Rattle.rk_merge.specs.Several.{total, all_rest}
+use Rattle.rk_merge.specs.Several.{total, all_rest, names_of}
 use Rattle.rk_merge.specs.Cuts.{place_near, step_place}
 use Rattle.rk_merge.specs.Directions.{go_reads}
 use Rattle.rk_spanmerge.specs.Merges.{Merging, left_end, span_ends, keys_at, told_items, united}
@@ -22,7 +22,7 @@ lt x y = is_lt (key_cmp x y)
 -- What a call leaves of the sources, and of the counts of faults and of reads: each source was sought n times
 -- at most.
 abbrev pub Seeks : {S T : Type 0} → (S → Seen Span) → List S → List S → ℕ → ℕ → ℕ → ℕ → ℕ → Result T SourceError → Type 0
-Seeks seen before now f f' r r' n result = Runs (all_rest seen before) (all_rest seen now) (united seen before) f f' r r' (n * total (λ s. (seen s).seek_most) before) result
+Seeks seen before now f f' r r' n result = Runs (all_rest seen before) (all_rest seen now) (names_of seen (united seen before) before) f f' r r' (n * total (λ s. (seen s).seek_most) before) result
 
 -- a span that a seek passes: ahead one that ends at or below the key, back one that begins below it
 abbrev pub takes : Bool → List ℕ → Span → Bool

@@ -1,8 +1,9 @@
 // The moves of all sources of a merge.
 ghost use Rattle.std.specs.Prelude.{◌≡◌, ◌<◌, ℕ, length, All, OnOk, IfSome, IsSome, if◌then◌else◌, slice_index_or};
+ghost use Rattle.rk_model.specs.Sources.{may_name};
 ghost use Rattle.rk_model.specs.Runs.{at_rest, IsWithin, Runs};
 ghost use Rattle.rk_merge.specs.Directions.{go_reads};
-ghost use Rattle.rk_merge.specs.Several.{all_rest, total};
+ghost use Rattle.rk_merge.specs.Several.{all_rest, total, names_of};
 ghost use Rattle.rk_merge.specs.Cuts.{step_place};
 ghost use Rattle.rk_spanmerge.specs.Merges.{united};
 ghost use Rattle.rk_spanmerge.specs.Moves.{Seeks, Stands, Passed, pass_reads, outlasts, turns};
@@ -20,7 +21,7 @@ fn seek_one<R: Counting, S: SpanSource<R>>(
 ) -> Result<(), SourceError>
     ensures ok { OnOk result (Stands ahead key.now (S.seen source.new)) }
     ensures within { OnOk result (IsWithin (S.seen source.new)) }
-    ensures runs { Runs (at_rest (S.seen source.old)) (at_rest (S.seen source.new)) (S.seen source.old).held (R.fault_count reader.old) (R.fault_count reader.new) (R.read_count reader.old) (R.read_count reader.new) ((S.seen source.old).seek_reads key.now) result }
+    ensures runs { Runs (at_rest (S.seen source.old)) (at_rest (S.seen source.new)) (may_name (S.seen source.old)) (R.fault_count reader.old) (R.fault_count reader.new) (R.read_count reader.old) (R.read_count reader.new) ((S.seen source.old).seek_reads key.now) result }
 {
     if ahead {
         source.seek_ge(reader, key)
@@ -55,7 +56,7 @@ fn step_one<R: Counting, S: SpanSource<R>>(
     requires { IsSome (S.seen source.old).place }
     ensures ok { OnOk result (IfSome (S.seen source.old).held (λ ss. (S.seen source.new).place ≡ step_place ahead ss (S.seen source.old).place)) }
     ensures within { OnOk result (IsWithin (S.seen source.new)) }
-    ensures runs { Runs (at_rest (S.seen source.old)) (at_rest (S.seen source.new)) (S.seen source.old).held (R.fault_count reader.old) (R.fault_count reader.new) (R.read_count reader.old) (R.read_count reader.new) (go_reads ahead (S.seen source.old)) result }
+    ensures runs { Runs (at_rest (S.seen source.old)) (at_rest (S.seen source.new)) (may_name (S.seen source.old)) (R.fault_count reader.old) (R.fault_count reader.new) (R.read_count reader.old) (R.read_count reader.new) (go_reads ahead (S.seen source.old)) result }
 {
     if ahead {
         source.next(reader)
@@ -85,7 +86,7 @@ fn turn_one<R: Counting, S: SpanSource<R>>(
 ) -> Result<(), SourceError>
     requires { (S.seen source.old).place ≡ None }
     ensures ok { OnOk result (Passed was ahead key.now (S.seen source.old) (S.seen source.new)) }
-    ensures runs { Runs (at_rest (S.seen source.old)) (at_rest (S.seen source.new)) (S.seen source.old).held (R.fault_count reader.old) (R.fault_count reader.new) (R.read_count reader.old) (R.read_count reader.new) (if turns was ahead then (S.seen source.old).seek_reads key.now else 0) result }
+    ensures runs { Runs (at_rest (S.seen source.old)) (at_rest (S.seen source.new)) (may_name (S.seen source.old)) (R.fault_count reader.old) (R.fault_count reader.new) (R.read_count reader.old) (R.read_count reader.new) (if turns was ahead then (S.seen source.old).seek_reads key.now else 0) result }
 {
     if was == ahead {
         Ok(())
@@ -103,7 +104,7 @@ fn pass_one<R: Counting, S: SpanSource<R>>(
     ahead: bool,
 ) -> Result<(), SourceError>
     ensures ok { OnOk result (Passed was ahead key.now (S.seen source.old) (S.seen source.new)) }
-    ensures runs { Runs (at_rest (S.seen source.old)) (at_rest (S.seen source.new)) (S.seen source.old).held (R.fault_count reader.old) (R.fault_count reader.new) (R.read_count reader.old) (R.read_count reader.new) (pass_reads was ahead key.now (S.seen source.old)) result }
+    ensures runs { Runs (at_rest (S.seen source.old)) (at_rest (S.seen source.new)) (may_name (S.seen source.old)) (R.fault_count reader.old) (R.fault_count reader.new) (R.read_count reader.old) (R.read_count reader.new) (pass_reads was ahead key.now (S.seen source.old)) result }
 {
     let Some(span) = source.here() else {
         return turn_one(source, reader, key, was, ahead);
@@ -123,7 +124,7 @@ pub(crate) fn pass_all<R: Counting, S: SpanSource<R>>(
     ahead: bool,
 ) -> Result<(), SourceError>
     ensures ok { OnOk result ((k : ℕ) (d : S) → k < length sources.old → Passed was ahead key.now (S.seen (slice_index_or sources.old k d)) (S.seen (slice_index_or sources.new k d))) }
-    ensures runs { Runs (all_rest S.seen sources.old) (all_rest S.seen sources.new) (united S.seen sources.old) (R.fault_count reader.old) (R.fault_count reader.new) (R.read_count reader.old) (R.read_count reader.new) (total (λ s. pass_reads was ahead key.now (S.seen s)) sources.old) result }
+    ensures runs { Runs (all_rest S.seen sources.old) (all_rest S.seen sources.new) (names_of S.seen (united S.seen sources.old) sources.old) (R.fault_count reader.old) (R.fault_count reader.new) (R.read_count reader.old) (R.read_count reader.new) (total (λ s. pass_reads was ahead key.now (S.seen s)) sources.old) result }
 {
     for source in sources.iter_mut() {
         pass_one(source, reader, key, was, ahead)?;

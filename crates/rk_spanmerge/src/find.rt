@@ -4,7 +4,7 @@ ghost use Rattle.std.specs.Option.{option_copied};
 ghost use Rattle.rk_model.specs.Lists.{none_of};
 ghost use Rattle.rk_model.specs.Runs.{Runs};
 ghost use Rattle.rk_merge.specs.Unions.{Among};
-ghost use Rattle.rk_merge.specs.Several.{all_rest, total};
+ghost use Rattle.rk_merge.specs.Several.{all_rest, total, names_of};
 ghost use Rattle.rk_merge.specs.Cuts.{near_cut};
 ghost use Rattle.rk_spanmerge.specs.Merges.{left_end, pooled, span_ends, united};
 ghost use Rattle.rk_spanmerge.specs.Moves.{Seeks, takes, is_nearer, end_seen, nearer_of, with_end, shown, first_end, IsNearestEnd, Shows, AllStand, Arrives, pass_reads};
@@ -216,7 +216,7 @@ pub(crate) fn leave<R: Counting, S: SpanSource<R>>(
     requires arrives { Arrives S.seen sources.old was (Some span.now) }
     ensures found { IfOk result (λ found. IfSome (united S.seen sources.old) (λ xs. found ≡ near_cut ahead (takes ahead (left_end ahead span.now)) xs)) }
     ensures arrives { IfOk result (λ found. Arrives S.seen sources.new ahead found) }
-    ensures runs { Runs (all_rest S.seen sources.old) (all_rest S.seen sources.new) (united S.seen sources.old) (R.fault_count reader.old) (R.fault_count reader.new) (R.read_count reader.old) (R.read_count reader.new) (total (λ s. pass_reads was ahead (left_end ahead span.now) (S.seen s)) sources.old) result }
+    ensures runs { Runs (all_rest S.seen sources.old) (all_rest S.seen sources.new) (names_of S.seen (united S.seen sources.old) sources.old) (R.fault_count reader.old) (R.fault_count reader.new) (R.read_count reader.old) (R.read_count reader.new) (total (λ s. pass_reads was ahead (left_end ahead span.now) (S.seen s)) sources.old) result }
 {
     let key = left_end(span, ahead);
     pass_all(sources, reader, key, was, ahead)?;

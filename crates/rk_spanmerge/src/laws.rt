@@ -17,8 +17,9 @@ pub fn cut_spans_are_spans()
     ensures { CutSpansAreSpans }
 {}
 
-/// And only there: where spans that are cut at each other's ends are a sorted list, no two range keys over one key
-/// have one number. So a merge of sources that are told is told exactly there.
+/// And only there, where ends that no order tells apart have the same bytes: if spans that are cut at each other's
+/// ends are a sorted list, no two range keys over one key have one number. So among such ends a merge of sources
+/// that are told is told exactly there.
 pub fn sorted_cuts_have_differing_keys()
     ensures { SortedCutsDiffer }
 {}

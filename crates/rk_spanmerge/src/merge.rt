@@ -1,7 +1,7 @@
 // The spans of several sources as one list.
 ghost use Rattle.std.specs.Prelude.{◌≡◌, length, IsSome, IfSome, IfOk, OnOk, None, true};
 ghost use Rattle.rk_outside.specs.Causes.{HasSourceCause, RaisesAtMost};
-ghost use Rattle.rk_model.specs.Sources.{Goes, count_before};
+ghost use Rattle.rk_model.specs.Sources.{Goes, count_before, may_name};
 ghost use Rattle.rk_merge.specs.Directions.{turn_to, go_reads, MovesOn};
 ghost use Rattle.rk_merge.specs.Cuts.{place_near, step_place};
 ghost use Rattle.rk_spanmerge.specs.Merges.{merged, merged_seek, merging_seen};
@@ -19,8 +19,8 @@ use std::marker::Model;
 const MIDDLE: u64 = 1 << 63;
 
 /// The spans of several sources as one list: at every key all range keys of the sources, newest first, cut at
-/// every start and end of a source's span. It is told where each source is told and no two range keys over one
-/// key have one number.
+/// every start and end of a source's span. It is told where each source is told, no two range keys over one key
+/// have one number, and ends that no order tells apart have the same bytes, as keys that were read have.
 ///
 /// It keeps a copy of the current span. Between two calls each source stands at its first span that ends above
 /// the start of that one, or at its last that begins below its end. So a step moves only the sources whose
@@ -105,7 +105,7 @@ fn seek<R: Counting, S: SpanSource<R>>(
 ) -> Result<(), SourceError>
     ensures goes { Goes (merging_seen S.seen merge.old) (merging_seen S.seen merge.new) (λ xs. place_near ahead (count_before (takes ahead key.now) xs) (length xs)) result }
     ensures straight { OnOk result (turn_to ahead (merging_seen S.seen merge.new) ≡ 0) }
-    ensures cause { HasSourceCause (merging_seen S.seen merge.old).held (R.fault_count reader.old) (R.fault_count reader.new) result }
+    ensures cause { HasSourceCause (may_name (merging_seen S.seen merge.old)) (R.fault_count reader.old) (R.fault_count reader.new) result }
     ensures reads { RaisesAtMost (R.read_count reader.old) (R.read_count reader.new) (merged_seek S.seen merge.old.sources) }
 {
     merge.current = None;
@@ -125,7 +125,7 @@ fn step<R: Counting, S: SpanSource<R>>(
     ensures goes { Goes (merging_seen S.seen merge.old) (merging_seen S.seen merge.new) (λ xs. step_place ahead xs (merging_seen S.seen merge.old).place) result }
     ensures moves { OnOk result (MovesOn ahead (merging_seen S.seen merge.old).place (merging_seen S.seen merge.new).place) }
     ensures straight { OnOk result (turn_to ahead (merging_seen S.seen merge.new) ≡ 0) }
-    ensures cause { HasSourceCause (merging_seen S.seen merge.old).held (R.fault_count reader.old) (R.fault_count reader.new) result }
+    ensures cause { HasSourceCause (may_name (merging_seen S.seen merge.old)) (R.fault_count reader.old) (R.fault_count reader.new) result }
     ensures reads { RaisesAtMost (R.read_count reader.old) (R.read_count reader.new) (go_reads ahead (merging_seen S.seen merge.old)) }
 {
     let Some(span) = merge.current.take() else {

@@ -61,8 +61,8 @@ impl Cover {
     }
 }
 
-/// The place of the first pair with a greater suffix.
-fn first_greater(pairs: &[SuffixValue], pair: &SuffixValue) -> Option<usize>
+/// The place of the first pair whose suffix is above that of a pair.
+pub fn first_greater(pairs: &[SuffixValue], pair: &SuffixValue) -> Option<usize>
     ensures { result ≡ position (λ q. is_lt (suffix_cmp pair.now.suffix q.suffix)) pairs.now }
 {
     pairs.iter().position(|q| pair.suffix < q.suffix)

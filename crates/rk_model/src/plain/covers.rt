@@ -32,7 +32,8 @@ impl Op {
         }
     }
 
-    pub(crate) fn is_point(&self) -> bool
+    /// Whether it is a put or a del.
+    pub fn is_point(&self) -> bool
         ensures { result ≡ is_point self.now }
     {
         matches!(self, Op::Put { .. } | Op::Del { .. })

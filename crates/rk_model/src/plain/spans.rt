@@ -53,9 +53,7 @@ impl KeptSpan {
     {
         self.cover.pairs()
     }
-}
 
-impl KeptSpan {
     /// Whether another span has the same ends and the same pairs.
     pub(crate) fn is_same(&self, other: &KeptSpan) -> bool
         ensures { result ≡ (same_bytes self.now.start other.now.start && same_bytes self.now.end other.now.end && same_cover self.now.cover other.now.cover) }

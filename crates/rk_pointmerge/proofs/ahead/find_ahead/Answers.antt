@@ -2,7 +2,7 @@ use Rattle.std.proofs.Common.{ap, rules, option_copied, true, false, is_some}
 use Rattle.rk_model.specs.Sources.{next_place}
 use Rattle.rk_model.specs.Runs.{at_rest}
 use Rattle.rk_pointmerge.specs.Views.{Passes}
-use Rattle.rk_model.proofs.Runs.{ran_from, ran_ran, ran_ok, ran_refused, ran_refusal, rest_held, rest_count, rest_steps}
+use Rattle.rk_model.proofs.Runs.{ran_from, ran_ran, ran_ok, ran_refused, ran_refusal, rest_count, rest_steps, rest_held, rest_names}
 use Rattle.rk_pointmerge.proofs.Walks.{reads_on, reads_end, reads_next, is_shown, isnt_shown}
 use Rattle.rk_pointmerge.proofs.AheadWalks.{told_stop, told_none, told_over, told_step, told_way}
 use Rattle.rk_pointmerge.proofs.ahead.find_ahead.Goals as goal
@@ -40,7 +40,7 @@ returns-in_err-step_one-clause-runs g c =
     let s = g.P.PointList.seen c.loop-entry.points in
     let some = is_shown c.here.result s.place c.here.ensures.there (ap is_some c.in-Some.is) in
     let le = reads_next b s (rest_count s b was.ran.same) (rest_steps s b was.ran.same) some was.within was.straight in
-    ran_refused _ _ _ _ _ _ _ _ _ _ _ _ _ _ c.in_err-step_one.field-0.0 _ (rest_held s b was.ran.same) le was.ran c.in_err-step_one.ensures.runs c.from_residual-in_err-step_one.ensures.1
+    ran_refused _ _ _ _ _ _ _ _ _ _ _ _ _ _ c.in_err-step_one.field-0.0 _ (rest_names s b was.ran.same) le was.ran c.in_err-step_one.ensures.runs c.from_residual-in_err-step_one.ensures.1
 
 pub returns-then-not-branch-clause-ok : goal.returns-then-not-branch-clause-ok
 returns-then-not-branch-clause-ok g c =

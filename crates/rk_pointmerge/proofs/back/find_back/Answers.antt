@@ -2,7 +2,7 @@ use Rattle.std.proofs.Common.{◌∙◌, ◌≤◌, ◌+◌, ◌-◌, ap, arith,
 use Rattle.rk_model.specs.Sources.{prev_place}
 use Rattle.rk_model.specs.Runs.{at_rest}
 use Rattle.rk_pointmerge.specs.Views.{gaps_left, back_most, return_to, FindsNewest}
-use Rattle.rk_model.proofs.Runs.{ran_from, ran_ok, ran_refused, ran_runs, rest_held, rest_steps}
+use Rattle.rk_model.proofs.Runs.{ran_from, ran_ok, ran_refused, ran_runs, rest_steps, rest_held, rest_names}
 use Rattle.rk_pointmerge.proofs.Walks.{is_shown, isnt_shown}
 use Rattle.rk_pointmerge.proofs.Turns.{on_ok_map}
 use Rattle.rk_pointmerge.proofs.BackWalks.{find_told_late, find_told_on, find_told_deleted, find_told_none, find_told_come, spend, back_ran, prev_gap, gaps_most, most_back, newest_ran}
@@ -37,7 +37,7 @@ returns-in_err-step_one-clause-runs g c =
     let gap = prev_gap s some was.straight in
     let less = one.1 in
     let all = gaps_most b c.requires.within in
-    ran_refused (at_rest b) (at_rest s) _ _ _ _ _ _ _ _ _ _ _ _ c.in_err-step_one.field-0.0 _ (rest_held s b was.ran.same) (omega arith) one.0 c.in_err-step_one.ensures.runs c.from_residual.ensures.1
+    ran_refused (at_rest b) (at_rest s) _ _ _ _ _ _ _ _ _ _ _ _ c.in_err-step_one.field-0.0 _ (rest_names s b was.ran.same) (omega arith) one.0 c.in_err-step_one.ensures.runs c.from_residual.ensures.1
 
 pub loop-entry-preserved : goal.loop-entry-preserved
 loop-entry-preserved g c =
@@ -64,7 +64,7 @@ returns-in_err-newest_back-clause-runs g c =
     let less = one.1 in
     let all = gaps_most b c.requires.within in
     let le : (gaps_left b - gaps_left s) + gaps_left s ≤ back_most b = omega arith in
-    ran_refused (at_rest b) (at_rest s) _ _ _ _ _ _ _ _ _ _ _ _ c.in_err-newest_back.field-0.0 _ (rest_held s b was.ran.same) le one.0 c.in_err-newest_back.ensures.runs c.from_residual-in_err-newest_back.ensures.1
+    ran_refused (at_rest b) (at_rest s) _ _ _ _ _ _ _ _ _ _ _ _ c.in_err-newest_back.field-0.0 _ (rest_names s b was.ran.same) le one.0 c.in_err-newest_back.ensures.runs c.from_residual-in_err-newest_back.ensures.1
 
 pub returns-then-branch-clause-runs : goal.returns-then-branch-clause-runs
 returns-then-branch-clause-runs g c =
@@ -76,7 +76,7 @@ returns-then-branch-clause-runs g c =
     let ran = newest_ran b s t _ _ _ _ _ _ _ _ was.ran was.spent (ran_from _ _ _ _ _ _ _ _ _ c.in_ok-newest_back.ensures.runs) c.in_ok-newest_back.ensures.spent in
     let one = spend (at_rest b) (at_rest t) b t _ _ _ _ _ ran.0 ran.1 in
     let le = most_back b t c.newest_back.new.key ran.0.same c.requires.within c.in_ok-newest_back.ensures.inside (g.met.P.PointSource.bounded c.newest_back.new.points) one.1 in
-    ran_runs (at_rest b) (at_rest t) (at_rest v) _ _ _ _ _ _ _ _ _ _ _ c.come_back.result (rest_held t b ran.0.same) le one.0 c.come_back.ensures.runs
+    ran_runs (at_rest b) (at_rest t) (at_rest v) _ _ _ _ _ _ _ _ _ _ _ c.come_back.result (rest_names t b ran.0.same) le one.0 c.come_back.ensures.runs
 
 pub returns-then-branch-clause-ok : goal.returns-then-branch-clause-ok
 returns-then-branch-clause-ok g c =

@@ -3,7 +3,7 @@ use Rattle.rk_model.specs.Sources.{op_key, prev_place, prev_reads}
 use Rattle.rk_model.specs.declared.op.Entry.{Entry}
 use Rattle.rk_model.specs.Runs.{at_rest}
 use Rattle.rk_pointmerge.specs.Views.{gaps_left, is_kept, is_put, step_over}
-use Rattle.rk_model.proofs.Runs.{ran_from, ran_none, ran_refused, rest_held, rest_steps}
+use Rattle.rk_model.proofs.Runs.{ran_from, ran_none, ran_refused, rest_steps, rest_held, rest_names}
 use Rattle.rk_pointmerge.proofs.Walks.{is_shown}
 use Rattle.rk_pointmerge.proofs.BackWalks.{find_told, told_first, told_more, told_on, told_done, spend, back_ran, prev_gap}
 use Rattle.rk_pointmerge.proofs.BackReads.{find_way, back_way, over_reads, spent_here}
@@ -28,7 +28,7 @@ loop-entry-init g c =
       within = steps.within;
       lower = steps.rises;
       kept = rw c.in_ok-keep.ensures.ok refl;
-      told = rw c.is_set-found.ensures (told_on b b t c.args.n c.keep.new.self _ refl (told_first b c.args.n c.keep.new.self c.in-Some.entry.now (option_copied c.here.result) c.here.ensures.told (ap option_copied c.in-Some.is) c.requires.old (rw c.key.ensures at c.in_ok-keep.ensures.ok)) steps);
+      told = rw c.is_put-found.ensures (told_on b b t c.args.n c.keep.new.self _ refl (told_first b c.args.n c.keep.new.self c.in-Some.entry.now (option_copied c.here.result) c.here.ensures.told (ap option_copied c.in-Some.is) c.requires.old (rw c.key.ensures at c.in_ok-keep.ensures.ok)) steps);
       spent = ran.1;
       ran = ran.0;
     }
@@ -49,7 +49,7 @@ loop-entry-preserved g c =
       within = steps.within;
       lower = (let down = steps.rises in let low = was.lower in omega arith);
       kept = was.kept;
-      told = rw c.is_set-found-in-Some-here.ensures (told_on b s t c.args.n c.keep.new.self _ held (told_more b s c.args.n c.keep.new.self c.loop-entry.found c.in-Some-here.entry.now (option_copied c.here-in-loop-entry.result) held was.told c.here-in-loop-entry.ensures.told (ap option_copied c.in-Some-here.is) c.if-entry-n.false kept) steps);
+      told = rw c.is_put-found-in-Some-here.ensures (told_on b s t c.args.n c.keep.new.self _ held (told_more b s c.args.n c.keep.new.self c.loop-entry.found c.in-Some-here.entry.now (option_copied c.here-in-loop-entry.result) held was.told c.here-in-loop-entry.ensures.told (ap option_copied c.in-Some-here.is) c.if-entry-n.false kept) steps);
       spent = ran.1;
       ran = ran.0;
     }
@@ -63,7 +63,7 @@ returns-in_err-step_one-2-clause-runs g c =
     let one = spend (at_rest b) (at_rest s) b s _ _ _ _ _ was.ran was.spent in
     let gap = prev_gap s some was.straight in
     let less = one.1 in
-    ran_refused (at_rest b) (at_rest s) _ _ _ _ _ _ _ _ _ _ _ _ c.in_err-step_one-2.field-0.0 _ (rest_held s b was.ran.same) (omega arith) one.0 c.in_err-step_one-2.ensures.runs c.from_residual-in_err-step_one-2.ensures.1
+    ran_refused (at_rest b) (at_rest s) _ _ _ _ _ _ _ _ _ _ _ _ c.in_err-step_one-2.field-0.0 _ (rest_names s b was.ran.same) (omega arith) one.0 c.in_err-step_one-2.ensures.runs c.from_residual-in_err-step_one-2.ensures.1
 
 pub returns-then-entry-n-clause-ok : goal.returns-then-entry-n-clause-ok
 returns-then-entry-n-clause-ok g c =

@@ -1,7 +1,7 @@
 use Rattle.std.proofs.Common.{◌∙◌, ◌+◌, ◌≤◌, None, sym, refl, arith}
 use Rattle.rk_model.specs.Runs.{at_rest}
 use Rattle.rk_pointmerge.specs.Views.{viewed, view_most}
-use Rattle.rk_model.proofs.Runs.{ran_from, ran_none, ran_ok, ran_ran, ran_refused, rest_held}
+use Rattle.rk_model.proofs.Runs.{ran_from, ran_none, ran_ok, ran_ran, ran_refused, rest_held, rest_names}
 use Rattle.rk_pointmerge.proofs.Walks.{is_copied}
 use Rattle.rk_pointmerge.proofs.ViewPlaces.{seek_looks, seek_most}
 use Rattle.rk_pointmerge.proofs.ViewReads.{runs_within, seek_told, seek_refused}
@@ -32,7 +32,7 @@ returns-in_err-find-clause-runs g c =
     let t = g.P.PointList.seen c.find.new.points in
     let ran = ran_from _ _ _ _ _ _ _ _ _ c.in_ok-seek_one.ensures.runs in
     let le = seek_most c.args.key.now b s ran.same (g.met.P.PointSource.bounded c.args.points.now) in
-    let runs = ran_refused (at_rest b) (at_rest s) (at_rest t) _ _ _ _ _ _ _ _ _ _ (view_most b) c.in_err-find.field-0.0 c.from_residual-in_err-find.result (rest_held s b ran.same) le ran c.in_err-find.ensures.runs c.from_residual-in_err-find.ensures.1 in
+    let runs = ran_refused (at_rest b) (at_rest s) (at_rest t) _ _ _ _ _ _ _ _ _ _ (view_most b) c.in_err-find.field-0.0 c.from_residual-in_err-find.result (rest_names s b ran.same) le ran c.in_err-find.ensures.runs c.from_residual-in_err-find.ensures.1 in
     let less = seek_told b c.args.n (g.met.P.PointSource.sorted c.args.points.now) s c.args.key.now c.clear.new.self c.args.ahead _ _ _ ran.same c.clear.ensures c.in_ok-seek_one.ensures.ok ran.reads.bound c.in_err-find.ensures.way runs.reads.bound in
     runs_within (at_rest b) (at_rest t) _ _ _ _ _ _ _ _ less runs
 

@@ -1,7 +1,7 @@
 use Rattle.std.proofs.Common.{◌∙◌, ◌≤◌, ◌+◌, sym, ap, arith, Some, option_copied, refl}
 use Rattle.rk_model.specs.Runs.{at_rest}
 use Rattle.rk_pointmerge.specs.Views.{view_most}
-use Rattle.rk_model.proofs.Runs.{ran_from, ran_ran, ran_none, ran_ok, ran_refused, rest_held}
+use Rattle.rk_model.proofs.Runs.{ran_from, ran_ran, ran_none, ran_ok, ran_refused, rest_held, rest_names}
 use Rattle.rk_merge.specs.Directions.{go_reads}
 use Rattle.rk_pointmerge.proofs.Walks.{is_copied}
 use Rattle.rk_pointmerge.proofs.ViewPlaces.{step_looks, go_most, find_most}
@@ -25,7 +25,7 @@ returns-in_err-find-clause-runs g c =
     let bounded = g.met.P.PointSource.bounded c.args.points.now in
     let ran = ran_from _ _ _ _ _ _ _ _ _ c.in_ok-step_one.ensures.runs in
     let le = find_most c.args.ahead b s ran.same c.requires.within bounded in
-    let runs = ran_refused (at_rest b) (at_rest s) (at_rest t) _ _ _ _ _ _ _ _ _ _ (view_most b) c.in_err-find.field-0.0 c.from_residual-in_err-find.result (rest_held s b ran.same) le ran c.in_err-find.ensures.runs c.from_residual-in_err-find.ensures.1 in
+    let runs = ran_refused (at_rest b) (at_rest s) (at_rest t) _ _ _ _ _ _ _ _ _ _ (view_most b) c.in_err-find.field-0.0 c.from_residual-in_err-find.result (rest_names s b ran.same) le ran c.in_err-find.ensures.runs c.from_residual-in_err-find.ensures.1 in
     let less = step_told b c.args.n (g.met.P.PointSource.sorted c.args.points.now) c.requires bounded c.in-Some.entry.now (option_copied c.here.result) c.here.ensures.told (ap option_copied c.in-Some.is) s c.keep.new.self c.args.ahead _ _ _ ran.same
     (c.in_ok-keep.ensures.ok ∙ ap Some c.key.ensures) c.in_ok-step_one.ensures.ok ran.reads.bound c.in_err-find.ensures.way runs.reads.bound in
     runs_within (at_rest b) (at_rest t) _ _ _ _ _ _ _ _ less runs

@@ -1,5 +1,5 @@
 use Rattle.std.proofs.Common.{◌≡◌, rules, ◌+◌, refl}
-use Rattle.rk_model.proofs.Runs.{ran_from, ran_ran, ran_refused, ran_memory, ran_none, rest_held, rest_count, rest_steps}
+use Rattle.rk_model.proofs.Runs.{ran_from, ran_ran, ran_refused, ran_memory, ran_none, rest_count, rest_steps, rest_held, rest_names}
 use Rattle.rk_pointmerge.proofs.Walks.{walk_start, walk_on, walk_more, walk_next, walk_end, is_shown}
 use Rattle.rk_model.specs.Runs.{at_rest}
 use Rattle.rk_pointmerge.proofs.one.count_on.Goals as goal
@@ -50,4 +50,4 @@ returns-in_err-step_one-2-clause-runs g c =
     let s = g.S.PointList.seen c.loop-more.source in
     let some = is_shown c.here.result s.place c.here.ensures.there (search rules) in
     let le = walk_next b s _ (rest_count s b was.ran.same) (rest_steps s b was.ran.same) some was.walked in
-    ran_refused _ _ _ _ _ _ _ _ _ _ _ _ _ _ c.in_err-step_one-2.field-0.0 _ (rest_held s b was.ran.same) le was.ran c.in_err-step_one-2.ensures.runs c.from_residual-in_err-step_one-2.ensures.1
+    ran_refused _ _ _ _ _ _ _ _ _ _ _ _ _ _ c.in_err-step_one-2.field-0.0 _ (rest_names s b was.ran.same) le was.ran c.in_err-step_one-2.ensures.runs c.from_residual-in_err-step_one-2.ensures.1

@@ -1,6 +1,6 @@
 use Rattle.std.proofs.Common.{◌≡◌, ◌+◌, ◌*◌, ◌∙◌, rules, ap, arith, refl}
 use Rattle.rk_model.specs.Runs.{at_rest}
-use Rattle.rk_model.proofs.Runs.{ran_from, ran_ran, ran_refused, ran_runs, rest_held, rest_seek}
+use Rattle.rk_model.proofs.Runs.{ran_from, ran_ran, ran_refused, ran_runs, rest_seek, rest_held, rest_names}
 use Rattle.rk_pointmerge.specs.Moves.{reads_left}
 use Rattle.rk_pointmerge.proofs.Walks.{isnt_shown}
 use Rattle.rk_pointmerge.proofs.Turns.{on_ok_map, last_below, left_from}
@@ -20,7 +20,7 @@ returns-in_err-more-clause-runs g c =
     let s = g.S.PointList.seen c.seek_one.new.source in
     let one = ran_from _ _ _ _ _ _ _ _ _ c.in_ok-seek_one.ensures.runs in
     let left = left_from c.args.key.now b b s refl one.same c.in_ok-seek_one.ensures.ok in
-    ran_refused _ _ _ _ _ _ _ _ _ _ _ _ _ _ c.in_err-more.field-0.0 _ (rest_held s b one.same) (omega arith) one c.in_err-more.ensures.runs c.from_residual-in_err-more.ensures.1
+    ran_refused _ _ _ _ _ _ _ _ _ _ _ _ _ _ c.in_err-more.field-0.0 _ (rest_names s b one.same) (omega arith) one c.in_err-more.ensures.runs c.from_residual-in_err-more.ensures.1
 
 pub returns-in_err-seek_one-2-clause-runs : goal.returns-in_err-seek_one-2-clause-runs
 returns-in_err-seek_one-2-clause-runs g c =
@@ -33,7 +33,7 @@ returns-in_err-seek_one-2-clause-runs g c =
     let two = ran_from _ _ _ _ _ _ _ _ _ c.in_ok-more.ensures.runs in
     let seek : u.seek_reads key ≡ b.seek_reads key = ap (λ f. f key) (rest_seek u b (two.same ∙ one.same)) in
     let ran = ran_ran _ _ _ _ _ _ _ _ _ _ _ (b.seek_reads key + reads_left s) (omega arith) one two in
-    ran_refused _ _ _ _ _ _ _ _ _ _ _ _ _ _ c.in_err-seek_one-2.field-0.0 _ (rest_held u b ran.same) (omega arith) ran c.in_err-seek_one-2.ensures.runs c.from_residual-in_err-seek_one-2.ensures.1
+    ran_refused _ _ _ _ _ _ _ _ _ _ _ _ _ _ c.in_err-seek_one-2.field-0.0 _ (rest_names u b ran.same) (omega arith) ran c.in_err-seek_one-2.ensures.runs c.from_residual-in_err-seek_one-2.ensures.1
 
 pub returns-clause-runs : goal.returns-clause-runs
 returns-clause-runs g c =
@@ -50,4 +50,4 @@ returns-clause-runs g c =
     let seek : u.seek_reads key ≡ b.seek_reads key = ap (λ f. f key) (rest_seek u b (two.same ∙ one.same)) in
     let here = ran_ran (at_rest b) (at_rest s) (at_rest u) _ _ _ _ _ _ _ _ (b.seek_reads key + reads_left s) (omega arith) one two in
     let there = ran_ran (at_rest b) (at_rest u) (at_rest v) _ _ _ _ _ _ _ _ (2 * b.seek_reads key + reads_left s) (omega arith) here three in
-    ran_runs _ _ _ _ _ _ _ _ _ _ _ _ _ _ _ (rest_held v b there.same) (omega arith) there c.go_on.ensures.runs
+    ran_runs _ _ _ _ _ _ _ _ _ _ _ _ _ _ _ (rest_names v b there.same) (omega arith) there c.go_on.ensures.runs

@@ -1,6 +1,6 @@
 use Rattle.std.proofs.Common.{◌≡◌, rules, arith}
 use Rattle.rk_model.specs.Runs.{at_rest}
-use Rattle.rk_model.proofs.Runs.{ran_from, ran_ran, ran_ok, ran_refused, ran_none, rest_held, rest_count, rest_steps}
+use Rattle.rk_model.proofs.Runs.{ran_from, ran_ran, ran_ok, ran_refused, ran_none, rest_count, rest_steps, rest_held, rest_names}
 use Rattle.rk_pointmerge.proofs.Walks.{walk_start, walk_on, walk_more, walk_next, walk_end, is_shown, isnt_shown, stays_out, walked_to}
 use Rattle.rk_pointmerge.proofs.one.go_on.Goals as goal
 
@@ -35,7 +35,7 @@ returns-in_err-step_one-clause-runs g c =
     let s = g.S.PointList.seen c.loop.source in
     let some = is_shown c.here.result s.place c.here.ensures.there (search rules) in
     let le = walk_next b s _ (rest_count s b was.ran.same) (rest_steps s b was.ran.same) some was.walked in
-    ran_refused _ _ _ _ _ _ _ _ _ _ _ _ _ _ c.in_err-step_one.field-0.0 _ (rest_held s b was.ran.same) le was.ran c.in_err-step_one.ensures.runs c.from_residual.ensures.1
+    ran_refused _ _ _ _ _ _ _ _ _ _ _ _ _ _ c.in_err-step_one.field-0.0 _ (rest_names s b was.ran.same) le was.ran c.in_err-step_one.ensures.runs c.from_residual.ensures.1
 
 pub loop-preserved : goal.loop-preserved
 loop-preserved g c =

@@ -1,16 +1,16 @@
-use Rattle.std.proofs.Common.{◌^◌, ◌<◌, ◌∙◌, sym, None, Some, Ok, Err, ℕ, Option, IfSome, subst, ap}
+use Rattle.std.proofs.Common.{◌^◌, ◌<◌, ◌∙◌, sym, None, Some, Ok, Err, ℕ, Bool, Option, IfSome, subst, ap}
 use Rattle.std.proofs.lemmas.Result.{err_from_is_err_and}
-use Rattle.rk_outside.specs.Causes.{RaisesAtMost}
+use Rattle.rk_outside.specs.Causes.{HasSourceCause, RaisesAtMost}
 use Rattle.rk_outside.specs.declared.error.SourceError.{SourceError}
 use Rattle.rk_merge.specs.Cuts.{step_place}
-use Rattle.rk_model.specs.Sources.{Seen, Goes}
+use Rattle.rk_model.specs.Sources.{Seen, Goes, may_name}
 use Rattle.rk_model.specs.declared.op.Entry.{Entry}
 use Rattle.rk_pointmerge.specs.Merges.{merging_seen}
 use Rattle.rk_pointmerge.specs.MergeLaws.{united-sorted}
 use Rattle.rk_pointmerge.specs.Views.{viewed, viewing_seen, marked, Views}
-use Rattle.rk_model.proofs.Runs.{rest_held}
+use Rattle.rk_model.proofs.Runs.{rest_held, cause_handed}
 use Rattle.rk_merge.specs.Directions.{MovesOn, go_reads}
-use Rattle.rk_pointmerge.proofs.ViewPlaces.{view_goes, view_refused, view_moves, step_to}
+use Rattle.rk_pointmerge.proofs.ViewPlaces.{viewed_names, view_goes, view_refused, view_moves, step_to}
 use Rattle.rk_pointmerge.proofs.ViewReads.{mark_reads}
 use Rattle.rk_pointmerge.proofs.visible.step.Goals as goal
 
@@ -72,3 +72,12 @@ returns-in_err-there-clause-reads g c =
     let view = ap (viewed s v.n) (sym at) ∙ ap (viewing_seen seen) c.visible.view_is in
     let most = mark_reads c.args.ahead s v.n 0 c.in-Some.at ∙ ap (go_reads c.args.ahead) view in
     subst (RaisesAtMost (g.R.Counting.read_count c.args.reader.now) (g.R.Counting.read_count c.step.new.reader)) most c.in_err-there.ensures.runs.reads
+
+pub returns-in_err-there-clause-cause : goal.returns-in_err-there-clause-cause
+returns-in_err-there-clause-cause g c =
+    let seen = g.S.PointList.seen in
+    let v = c.visible.inside in
+    let s = merging_seen seen v.merge in
+    let names = viewed_names s v.n v.mark ∙ ap (λ x. may_name (viewing_seen seen x)) c.visible.view_is in
+    let cause = cause_handed (may_name s) _ _ c.in_err-there.field-0.0 c.from_residual.result c.in_err-there.ensures.runs.cause c.from_residual.ensures.1 in
+    subst (λ (h : ℕ → ℕ → Bool). HasSourceCause h (g.R.Counting.fault_count c.args.reader.now) (g.R.Counting.fault_count c.step.new.reader) c.from_residual.result) names cause

@@ -1,11 +1,11 @@
-use Rattle.std.proofs.Common.{◌∙◌, sym, ap, ℕ, List, Option, length, None, Ok, Err, refl, subst, arith}
+use Rattle.std.proofs.Common.{◌∙◌, sym, ap, ℕ, Bool, List, Option, length, None, Ok, Err, refl, subst, arith}
 use Rattle.std.proofs.lemmas.List.{with_items_is}
 use Rattle.std.proofs.lemmas.Result.{err_from_is_err_and}
 use Rattle.rk_outside.specs.declared.error.SourceError.{SourceError}
 use Rattle.rk_outside.specs.Causes.{HasSourceCause}
 use Rattle.rk_merge.specs.Cuts.{place_near}
 use Rattle.rk_merge.proofs.Several.{rest_length}
-use Rattle.rk_model.specs.Sources.{Seen, Goes, count_before}
+use Rattle.rk_model.specs.Sources.{Seen, Goes, count_before, may_name}
 use Rattle.rk_model.specs.declared.span.Span.{Span}
 use Rattle.rk_spanmerge.specs.Merges.{merged, merging_seen}
 use Rattle.rk_spanmerge.specs.MergeLaws.{united-sorted}
@@ -33,7 +33,7 @@ returns-in_err-merge-inside-clause-cause g c =
     let m = c.merge.inside in
     let is = merging_is seen (united-sorted seen) c.args.merge.now m.sources.items c.deref_mut.result.now m.current m.current m.ahead m.steps c.merge.view_is c.deref_mut.ensures.value refl in
     let up = seeks_refused seen c.deref_mut.result.now c.find.new.sources _ _ _ _ 3 c.in_err-merge-inside.field-0.0 c.from_residual.result c.in_err-merge-inside.ensures.seeks c.from_residual.ensures.1 in
-    subst (λ (h : Option (List Span)). HasSourceCause h (g.R.Counting.fault_count c.args.reader.now) (g.R.Counting.fault_count c.find.new.reader) c.from_residual.result) (ap (λ s. s.held) is) up.cause
+    subst (λ (h : ℕ → ℕ → Bool). HasSourceCause h (g.R.Counting.fault_count c.args.reader.now) (g.R.Counting.fault_count c.find.new.reader) c.from_residual.result) (ap may_name is) up.cause
 
 pub invariant_of-merge-2 : goal.invariant_of-merge-2
 invariant_of-merge-2 g c =

@@ -1,4 +1,4 @@
-use Rattle.std.proofs.Common.{◌≡◌, ◌∙◌, ◌<◌, sym, ap, List, Option, None, Some, Ok, Err, IfSome, refl, subst, arith}
+use Rattle.std.proofs.Common.{◌≡◌, ◌∙◌, ◌<◌, sym, ap, List, Option, None, Some, Ok, Err, IfSome, refl, subst, arith, ℕ, Bool}
 use Rattle.std.specs.Prelude.{◌^◌}
 use Rattle.std.proofs.lemmas.List.{with_items_is}
 use Rattle.std.proofs.lemmas.Result.{err_from_is_err_and}
@@ -6,9 +6,9 @@ use Rattle.rk_outside.specs.declared.error.SourceError.{SourceError}
 use Rattle.rk_outside.specs.Causes.{HasSourceCause, RaisesAtMost}
 use Rattle.rk_merge.specs.Unions.{Among}
 use Rattle.rk_merge.specs.Cuts.{step_place}
-use Rattle.rk_merge.specs.Several.{all_rest, total}
+use Rattle.rk_merge.specs.Several.{all_rest, names_of, total}
 use Rattle.rk_merge.proofs.Several.{rest_length}
-use Rattle.rk_model.specs.Sources.{Seen, Goes}
+use Rattle.rk_model.specs.Sources.{Seen, Goes, may_name}
 use Rattle.rk_model.specs.declared.span.Span.{Span}
 use Rattle.rk_model.proofs.Runs.{ran_none, ran_refused}
 use Rattle.rk_merge.specs.Directions.{go_reads, MovesOn}
@@ -57,8 +57,8 @@ returns-in_err-merge-inside-clause-cause g c =
     let ds = c.deref_mut.result.now in
     let is = merging_is seen (united-sorted seen) c.args.merge.now m.sources.items ds m.current (Some c.in-Some.span) m.ahead m.steps c.merge.view_is c.deref_mut.ensures.value (sym c.take.ensures.value ∙ c.in-Some.is) in
     let most = total (λ s. pass_reads m.ahead c.args.ahead (left_end c.args.ahead c.in-Some.span) (seen s)) ds in
-    let up = ran_refused (all_rest seen ds) (all_rest seen ds) (all_rest seen c.leave.new.sources) (united seen ds) (united seen ds) _ _ _ _ _ _ 0 most most c.in_err-merge-inside.field-0.0 c.from_residual.result refl (omega arith) (ran_none _ _ _ _) c.in_err-merge-inside.ensures.runs c.from_residual.ensures.1 in
-    subst (λ (h : Option (List Span)). HasSourceCause h (g.R.Counting.fault_count c.args.reader.now) (g.R.Counting.fault_count c.leave.new.reader) c.from_residual.result) (ap (λ s. s.held) is) up.cause
+    let up = ran_refused (all_rest seen ds) (all_rest seen ds) (all_rest seen c.leave.new.sources) (names_of seen (united seen ds) ds) (names_of seen (united seen ds) ds) _ _ _ _ _ _ 0 most most c.in_err-merge-inside.field-0.0 c.from_residual.result refl (omega arith) (ran_none _ _ _ _) c.in_err-merge-inside.ensures.runs c.from_residual.ensures.1 in
+    subst (λ (h : ℕ → ℕ → Bool). HasSourceCause h (g.R.Counting.fault_count c.args.reader.now) (g.R.Counting.fault_count c.leave.new.reader) c.from_residual.result) (ap may_name is) up.cause
 
 pub returns-in_err-merge-inside-clause-reads : goal.returns-in_err-merge-inside-clause-reads
 returns-in_err-merge-inside-clause-reads g c =

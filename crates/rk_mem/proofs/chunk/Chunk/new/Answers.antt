@@ -1,7 +1,8 @@
 use Rattle.std.specs.List.Sorted.{IsPermutation}
+use Rattle.rk_model.proofs.Numbers.{some_differ}
 use Rattle.rk_model.specs.Covers.{is_point}
 use Rattle.rk_mem.specs.Chunks.{points_of}
-use Rattle.rk_mem.proofs.Numbers.{rising_differ, some_differ}
+use Rattle.rk_mem.proofs.Numbers.{rising_differ}
 use Rattle.rk_mem.proofs.Split.{filter_again, sorted_out, chunk_is}
 use Rattle.rk_mem.proofs.chunk.Chunk.new.Goals as goal
 

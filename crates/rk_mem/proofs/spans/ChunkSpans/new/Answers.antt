@@ -1,6 +1,7 @@
 use Rattle.std.proofs.Common.{◌≡◌, ◌∙◌, ap}
 use Rattle.std.specs.Arc.{arc_value}
-use Rattle.rk_fragment.specs.Fragments.{fragments, NumbersDiffer}
+use Rattle.rk_model.specs.Operations.{NumbersDiffer}
+use Rattle.rk_fragment.specs.Fragments.{fragments}
 use Rattle.rk_mem.specs.Chunks.{ranges_of}
 use Rattle.rk_mem.proofs.Split.{sound_fragments}
 use Rattle.rk_mem.proofs.spans.ChunkSpans.new.Goals as goal

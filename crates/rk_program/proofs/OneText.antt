@@ -1,0 +1,181 @@
+-- Two runs over the same lines write the same. Their states may differ in the order of the live numbers alone, since a
+-- release may take any copy of its number.
+use Rattle.std.proofs.Common.{◌≡◌, ℕ, ◌+◌, List, [], ◌∷◌, ◌++◌, length, Option, Some, None, ap, sym, ◌∙◌, refl, subst, inl, inr}
+use Rattle.std.specs.Prelude.{unwrap_or}
+use Rattle.rk_model.specs.Moves.{Move}
+use Rattle.rk_model.specs.Named.{named, with_named}
+use Rattle.rk_model.specs.Operations.{History, last}
+use Rattle.rk_model.specs.declared.op.Op.{Op}
+use Rattle.rk_model.specs.declared.options.IterOptions.{IterOptions}
+use Rattle.rk_batch.specs.Checks.{Check, AllPass, IsFirst, checks}
+use Rattle.rk_batch.specs.declared.error.BatchError.{BatchError}
+use Rattle.rk_batch.proofs.Firsts.{one_first}
+use Rattle.rk_batch.proofs.Refusing.{first_fails}
+use Rattle.rk_machine.specs.Machine.{State, Open, opened, moved_on, without_named, Event, Commit as commits, Snap as snaps, Release as releases, OpenAt, Moves, Close as closes, Reply, Step, Stands, Committed, Number, Opened}
+use Rattle.rk_script.specs.declared.line.Event.{Event as LineEvent}
+use Rattle.rk_script.specs.declared.line.Event.TheVariants.{Commit, Snap, Release, Iter, Close}
+use Rattle.rk_script.specs.declared.line.Line.{Line}
+use Rattle.rk_program.specs.Replies.{refused_text, reply_text}
+use Rattle.rk_program.specs.Transcript.{SessionState, begin, batch_of, with_batch, left_by, IsTime, Does, DoesOp, DoesEvent, DoesCommit, DoesOther, op_of, move_of, IsTranscript}
+
+-- two states of the machine that may differ in their live numbers alone
+record Alike (m n : State) : Type 0 where
+  history : m.history ≡ n.history
+  iterators : m.iterators ≡ n.iterators
+
+-- the same of two states of a session
+record AreAlike (s t : SessionState) : Type 0 where
+  states : Alike s.state t.state
+  batches : s.batches ≡ t.batches
+  snapshots : s.snapshots ≡ t.snapshots
+
+-- the texts are the same, and the states are alike
+abbrev TellsAlike : (a b : List ℕ) → SessionState → SessionState → Type 0
+TellsAlike a b s t = (a ≡ b) × AreAlike s t
+
+same_opened : (m n : State) (at : Option ℕ) (options : IterOptions) → m.history ≡ n.history → opened m at options ≡ opened n at options
+same_opened m n at options same =
+    let of : History → Open = λ h. opened (record m { history = h }) at options in
+    ap of same
+
+-- a name has one thing in a list
+one_thing : {A : Type 0} (name : List ℕ) (xs ys : List (List ℕ × A)) (x y : A) → xs ≡ ys → named name xs ≡ Some x → named name ys ≡ Some y → x ≡ y
+one_thing name xs ys x y same p q = let found = ap (named name) same in cc
+
+-- things that are as two that are the same
+across : {A : Type 0} {x y v w : A} → v ≡ x → x ≡ y → w ≡ y → v ≡ w
+across p same d = p ∙ (same ∙ sym d)
+
+Alike-ends : (m' n' k l : State) → m' ≡ k → n' ≡ l → Alike k l → Alike m' n'
+Alike-ends m' n' k l p d same = record {
+  history = across (ap (λ m. m.history) p) same.history (ap (λ m. m.history) d);
+  iterators = across (ap (λ m. m.iterators) p) same.iterators (ap (λ m. m.iterators) d);
+}
+
+-- from states that are alike, an event has one reply
+Step-alike : (m n m' n' : State) (event : Event) (r q : Reply) → Alike m n → Step m event r m' → Step n event q n' → (r ≡ q) × Alike m' n'
+Step-alike m n m' n' (commits []) r q same p d = (across p.0 refl d.0, Alike-ends m' n' _ _ p.1 d.1 same)
+Step-alike m n m' n' (commits (op ∷ ops)) r q same p d = (
+  across p.0 (ap (λ h. Committed (last h + 1) (last h + length (op ∷ ops))) same.history) d.0,
+  Alike-ends m' n' _ _ p.1 d.1 (record { history = ap (λ h. h ++ (op ∷ ops) ∷ []) same.history; iterators = same.iterators }),
+)
+Step-alike m n m' n' snaps r q same p d = (
+  across p.0 (ap (λ h. Number (last h)) same.history) d.0,
+  Alike-ends m' n' _ _ p.1 d.1 (record { history = same.history; iterators = same.iterators }),
+)
+Step-alike m n m' n' (releases number) r q same p d =
+    (across p.1 refl d.1, Alike-ends m' n' _ _ p.2 d.2 (record { history = same.history; iterators = same.iterators }))
+Step-alike m n m' n' (OpenAt name at options) r q same p d =
+    let now = same_opened m n at options same.history in (
+      across p.2 (ap (λ it. Opened it.number) now) d.2,
+      Alike-ends m' n' _ _ p.3 d.3 (record {
+        history = same.history;
+        iterators = ap (λ is. is ++ (name, opened m at options) ∷ []) same.iterators ∙ ap (λ it. n.iterators ++ (name, it) ∷ []) now;
+      }),
+    )
+Step-alike m n m' n' (Moves name move) r q same p d =
+    let it = one_thing name m.iterators n.iterators p.0 d.0 same.iterators p.1 d.1 in (
+      across p.2 (ap (λ i. Stands (moved_on i move)) it) d.2,
+      Alike-ends m' n' _ _ p.3 d.3 (record {
+        history = same.history;
+        iterators = ap (with_named name (moved_on p.0 move)) same.iterators ∙ ap (λ i. with_named name (moved_on i move) n.iterators) it;
+      }),
+    )
+Step-alike m n m' n' (closes name) r q same p d =
+    (across p.2 refl d.2, Alike-ends m' n' _ _ p.3 d.3 (record { history = same.history; iterators = ap (without_named name) same.iterators }))
+
+DoesEvent-alike : (s t : SessionState) (name : List ℕ) (e f : Event) (bs cs : List (List ℕ × List Op)) (xs ys : List (List ℕ × ℕ)) (a b : List ℕ) (s' t' : SessionState)
+    → Alike s.state t.state → e ≡ f → bs ≡ cs → xs ≡ ys → DoesEvent s name e bs xs a s' → DoesEvent t name f cs ys b t' → TellsAlike a b s' t'
+DoesEvent-alike s t name e f bs cs xs ys a b s' t' same events batches snapshots p d =
+    let P : Event → Type 0 = λ event. Step t.state event d.0 t'.state in
+    let steps = Step-alike s.state t.state s'.state t'.state e p.0 d.0 same p.1 (subst P (sym events) d.1) in (
+      across p.2 (ap (reply_text name) steps.0) d.2,
+      record { states = steps.1; batches = across p.3 batches d.3; snapshots = across p.4 snapshots d.4 },
+    )
+
+same_batch : (s t : SessionState) (writer : List ℕ) → AreAlike s t → batch_of writer s ≡ batch_of writer t
+same_batch s t writer same = ap (λ bs. unwrap_or (named writer bs) []) same.batches
+
+DoesCommit-alike : (s t : SessionState) (writer : List ℕ) (a b : List ℕ) (s' t' : SessionState)
+    → AreAlike s t → DoesCommit s writer a s' → DoesCommit t writer b t' → TellsAlike a b s' t'
+DoesCommit-alike s t writer a b s' t' same p d =
+    let ops = batch_of writer s in
+    let batch : ops ≡ batch_of writer t = same_batch s t writer same in
+    let P : List Op → Type 0 = λ os. Step t.state (commits os) d.0 t'.state in
+    let steps = Step-alike s.state t.state s'.state t'.state (commits ops) p.0 d.0 same.states p.1 (subst P (sym batch) d.1) in
+    let left : left_by p.0 ops ≡ left_by d.0 (batch_of writer t) = ap (λ r. left_by r ops) steps.0 ∙ ap (left_by d.0) batch in (
+      across p.2 (ap (reply_text writer) steps.0) d.2,
+      record {
+        states = steps.1;
+        batches = across p.3 (ap (with_named writer (left_by p.0 ops)) same.batches ∙ ap (λ os. with_named writer os t.batches) left) d.3;
+        snapshots = across p.4 same.snapshots d.4;
+      },
+    )
+
+with_batch-alike : (s t : SessionState) (writer : List ℕ) (os qs : List Op) (s' t' : SessionState)
+    → AreAlike s t → os ≡ qs → s' ≡ with_batch writer os s → t' ≡ with_batch writer qs t → AreAlike s' t'
+with_batch-alike s t writer os qs s' t' same ops p d = record {
+  states = Alike-ends s'.state t'.state s.state t.state (ap (λ e. e.state) p) (ap (λ e. e.state) d) same.states;
+  batches = across (ap (λ e. e.batches) p) (ap (with_named writer os) same.batches ∙ ap (λ xs. with_named writer xs t.batches) ops) (ap (λ e. e.batches) d);
+  snapshots = across (ap (λ e. e.snapshots) p) same.snapshots (ap (λ e. e.snapshots) d);
+}
+
+-- the checks of a batch pass, or one refusal comes first, and not both
+DoesOp-alike : (s t : SessionState) (writer : List ℕ) (op : Op) (a b : List ℕ) (s' t' : SessionState)
+    → AreAlike s t → DoesOp s writer op a s' → DoesOp t writer op b t' → TellsAlike a b s' t'
+DoesOp-alike s t writer op a b s' t' same p d = of p d where
+  batch : batch_of writer s ≡ batch_of writer t
+  batch = same_batch s t writer same
+
+  there : List Check
+  there = checks (batch_of writer t) op
+
+  first_there : (error : BatchError) → IsFirst (checks (batch_of writer s) op) error → IsFirst there error
+  first_there error = subst (λ ops. IsFirst (checks ops op) error) batch
+
+  of : DoesOp s writer op a s' → DoesOp t writer op b t' → TellsAlike a b s' t'
+  of (inl x) (inl y) = (across x.1 refl y.1, with_batch-alike s t writer _ _ s' t' same (ap (λ ops. ops ++ op ∷ []) batch) x.2 y.2)
+  of (inl x) (inr y) = absurd (first_fails there y.0 y.1 (subst (λ ops. AllPass (checks ops op)) batch x.0))
+  of (inr x) (inl y) = absurd (first_fails there x.0 (first_there x.0 x.1) y.0)
+  of (inr x) (inr y) =
+      let error = one_first there x.0 y.0 (first_there x.0 x.1) y.1 in
+      (across x.2 (ap (refused_text writer) error) y.2, with_batch-alike s t writer _ _ s' t' same batch x.3 y.3)
+
+one_time : (s t : SessionState) (at : Option (List ℕ)) (x y : Option ℕ) → s.snapshots ≡ t.snapshots → IsTime s at x → IsTime t at y → x ≡ y
+one_time s t None x y same p d = p ∙ sym d
+one_time s t (Some name) x y same p d = sym p.0 ∙ (ap (named name) same ∙ d.0)
+
+DoesOther-alike : (s t : SessionState) (o : Option (List ℕ × Op)) (m : Option (List ℕ × Move)) (a b : List ℕ) (s' t' : SessionState)
+    → AreAlike s t → DoesOther s o m a s' → DoesOther t o m b t' → TellsAlike a b s' t'
+DoesOther-alike s t (Some o) m a b s' t' same p d = DoesOp-alike s t o.0 o.1 a b s' t' same p d
+DoesOther-alike s t None (Some m) a b s' t' same p d =
+    DoesEvent-alike s t m.0 (Moves m.0 m.1) _ _ _ _ _ a b s' t' same.states refl same.batches same.snapshots p d
+DoesOther-alike s t None None a b s' t' same p d = absurd p
+
+Does-alike : (s t : SessionState) (event : LineEvent) (a b : List ℕ) (s' t' : SessionState) → AreAlike s t → Does s event a s' → Does t event b t' → TellsAlike a b s' t'
+Does-alike s t (Commit writer) a b s' t' same p d = DoesCommit-alike s t writer a b s' t' same p d
+Does-alike s t (Snap name) a b s' t' same p d =
+    let more = ap (λ xs. xs ++ (name, last s.state.history) ∷ []) same.snapshots ∙ ap (λ h. t.snapshots ++ (name, last h) ∷ []) same.states.history in
+    DoesEvent-alike s t name snaps _ _ _ _ _ a b s' t' same.states refl same.batches more p d
+Does-alike s t (Release name) a b s' t' same p d =
+    let number = one_thing name s.snapshots t.snapshots p.0 d.0 same.snapshots p.1 d.1 in
+    DoesEvent-alike s t name _ _ _ _ _ _ a b s' t' same.states (ap releases number) same.batches (ap (without_named name) same.snapshots) p.2 d.2
+Does-alike s t (Iter name at lower upper mask) a b s' t' same p d =
+    let number = one_time s t at p.0 d.0 same.snapshots p.1 d.1 in
+    DoesEvent-alike s t name _ _ _ _ _ _ a b s' t' same.states
+    (ap (λ n. OpenAt name n (record { lower = lower; upper = upper; mask = mask })) number) same.batches same.snapshots p.2 d.2
+Does-alike s t (Close iter) a b s' t' same p d =
+    DoesEvent-alike s t iter (closes iter) _ _ _ _ _ a b s' t' same.states refl same.batches same.snapshots p d
+Does-alike s t event a b s' t' same p d = DoesOther-alike s t (op_of event) (move_of event) a b s' t' same p d
+
+transcripts_alike : (lines : List Line) (s t : SessionState) (a b : List ℕ) (s' t' : SessionState)
+    → AreAlike s t → IsTranscript s lines a s' → IsTranscript t lines b t' → a ≡ b
+transcripts_alike [] s t a b s' t' same p d = p.0 ∙ sym d.0
+transcripts_alike (line ∷ lines) s t a b s' t' same p d =
+    let here = Does-alike s t line.event p.0 d.0 p.2 d.2 same p.3 d.3 in
+    let rest = transcripts_alike lines p.2 d.2 p.1 d.1 s' t' here.1 p.4 d.4 in
+    p.5 ∙ (ap (λ first. first ++ p.1) here.0 ∙ (ap (λ later. d.0 ++ later) rest ∙ sym d.5))
+
+pub one_transcript : (lines : List Line) (a b : List ℕ) (s t : SessionState) → IsTranscript begin lines a s → IsTranscript begin lines b t → a ≡ b
+one_transcript lines a b s t p d =
+    transcripts_alike lines begin begin a b s t (record { states = record { history = refl; iterators = refl }; batches = refl; snapshots = refl }) p d
