@@ -22,7 +22,7 @@ pub struct ChunkPoints {
 
 impl Model for ChunkPoints {
     ghost use Rattle.std.specs.Arc.{arc_value};
-    ghost use Rattle.rk_model.specs.Sources.{Placed, IsWithin};
+    ghost use Rattle.rk_model.specs.Sources.{Placed, IsAmongThem};
     ghost use Rattle.rk_model.specs.declared.op.Entry.{Entry};
     ghost use Rattle.rk_mem.specs.Chunks.{points_of};
 
@@ -30,7 +30,7 @@ impl Model for ChunkPoints {
 
     ghost view = { λ s. record { items = points_of (arc_value s.chunk); place = s.place } };
 
-    ghost invariant = { λ s. IsWithin (record { items = points_of (arc_value s.chunk); place = s.place }) };
+    ghost invariant = { λ s. IsAmongThem (record { items = points_of (arc_value s.chunk); place = s.place }) };
 }
 
 impl ChunkPoints {

@@ -103,9 +103,9 @@ abbrev pub item_at : {A : Type 0} → List A → Option ℕ → Option A
 item_at xs place = option_and_then (slice_get xs) place
 
 -- What contracts see of a source: the list, where it is told, and else which places of which files it may name as
--- no table; the place in the list, and a count that places are below, told or not. Then the most reads of a seek of a key, and of any seek; of a step over the gap before a
--- place; and of a turn at a place, which is a step against the call before. And the reads of the turn that a
--- step forward, or back, would be now.
+-- no table's; its own place, and a count that places are below, told or not. Then the most reads of a seek of a key,
+-- and of any seek; of a step over the gap before a place; and of a turn at a place, which is a step against the call
+-- before. And the reads of the turn that a step forward, or back, would be now.
 pub record Seen (A : Type 0) : Type 0 where
   pub held : Option (List A)
   pub bad : ℕ → ℕ → Bool
@@ -181,5 +181,5 @@ pub record Placed (A : Type 0) : Type 0 where
   pub items : List A
   pub place : Option ℕ
 
-abbrev pub IsWithin : {A : Type 0} → Placed A → Type 0
-IsWithin p = IfSome p.place (λ i. i < length p.items)
+abbrev pub IsAmongThem : {A : Type 0} → Placed A → Type 0
+IsAmongThem p = IfSome p.place (λ i. i < length p.items)

@@ -17,14 +17,14 @@ pub struct ListPoints {
 }
 
 impl Model for ListPoints {
-    ghost use Rattle.rk_model.specs.Sources.{Placed, IsWithin};
+    ghost use Rattle.rk_model.specs.Sources.{Placed, IsAmongThem};
     ghost use Rattle.rk_model.specs.declared.op.Entry.{Entry};
 
     ghost Value = { Placed Entry };
 
     ghost view = { λ s. record { items = s.entries.items; place = s.place } };
 
-    ghost invariant = { λ s. IsWithin (record { items = s.entries.items; place = s.place }) };
+    ghost invariant = { λ s. IsAmongThem (record { items = s.entries.items; place = s.place }) };
 }
 
 impl ListPoints {
@@ -83,14 +83,14 @@ pub struct ListSpans {
 }
 
 impl Model for ListSpans {
-    ghost use Rattle.rk_model.specs.Sources.{Placed, IsWithin};
+    ghost use Rattle.rk_model.specs.Sources.{Placed, IsAmongThem};
     ghost use Rattle.rk_model.specs.declared.span.Span.{Span};
 
     ghost Value = { Placed Span };
 
     ghost view = { λ s. record { items = s.spans.items; place = s.place } };
 
-    ghost invariant = { λ s. IsWithin (record { items = s.spans.items; place = s.place }) };
+    ghost invariant = { λ s. IsAmongThem (record { items = s.spans.items; place = s.place }) };
 }
 
 impl ListSpans {

@@ -4,9 +4,9 @@ use Rattle.rk_outside.specs.declared.error.SourceError.{SourceError}
 use Rattle.rk_model.specs.Sources.{Seen, may_name}
 use Rattle.rk_model.specs.Runs.{at_rest, Runs}
 use Rattle.rk_model.specs.declared.op.Entry.{Entry}
-use Rattle.rk_merge.specs.Several.{all_rest, names_of}
+use Rattle.rk_merge.specs.Several.{all_rest, names_of, told_items}
 use Rattle.rk_merge.proofs.Several.{told_rest, untold as untold_one, runs_set as runs_set_in}
-use Rattle.rk_pointmerge.specs.Merges.{united, told_items}
+use Rattle.rk_pointmerge.specs.Merges.{united}
 
 module _ {S : Type 0} (seen : S → Seen Entry) where
   items_rest : (ss : List S) → map (λ s. told_items (seen s)) ss ≡ map told_items (all_rest seen ss)

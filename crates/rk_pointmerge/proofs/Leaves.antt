@@ -9,8 +9,8 @@ use Rattle.rk_merge.specs.Unions.{Among}
 use Rattle.rk_merge.specs.Cuts.{place_near, cut_at, cut_past, step_place}
 use Rattle.rk_merge.proofs.Cuts.{near_is, near_rank, step_rank, rank_past, rank_item, cut_agree, before_suc}
 use Rattle.rk_merge.proofs.Unions.{union_from, union_apart}
-use Rattle.rk_merge.specs.Several.{total}
-use Rattle.rk_pointmerge.specs.Merges.{united, told_items, comes_before, shown, rank, reach, come, merged, merged_place, merged_steps, merged_turn, turning_reads, turn_from, turn_most, place_of, next_reads_from, prev_reads_from, has_entry, step_most, turn_at_last}
+use Rattle.rk_merge.specs.Several.{total, told_items}
+use Rattle.rk_pointmerge.specs.Merges.{united, comes_before, shown, rank, reach, come, merged, merged_place, merged_steps, merged_turn, turning_reads, turn_from, turn_most, place_of, next_reads_from, prev_reads_from, has_entry, step_most, turn_at_last}
 use Rattle.rk_model.specs.Runs.{at_rest, IsWithin}
 use Rattle.rk_merge.specs.Directions.{turn_to, go_reads}
 use Rattle.rk_merge.specs.Several.{all_rest}

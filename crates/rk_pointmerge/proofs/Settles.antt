@@ -1,5 +1,6 @@
 -- Where all sources stand next to a cut, the nearest of what they show is what the union shows there.
 use Rattle.std.proofs.Common.{◌≡◌, ℕ, ◌<◌, length, get_or, All, Bool, true, false, List, Option, Some, None, IfSome, IsTrue, refl, ap, sym, subst, ◌∙◌, arith}
+use Rattle.rk_merge.specs.Several.{told_items}
 use Rattle.rk_key.proofs.TotalOrders.{ge_trans}
 use Rattle.rk_model.specs.Sources.{Seen, are_points, count_before}
 use Rattle.rk_model.specs.declared.op.Entry.{Entry}
@@ -7,7 +8,7 @@ use Rattle.rk_merge.specs.Unions.{Among}
 use Rattle.rk_merge.specs.Cuts.{place_near, is_beyond, is_nearer, cut_at}
 use Rattle.rk_merge.proofs.Cuts.{near_is, near_best, nearest_cut, near_rank, cut_agree, cut_all, cut_none, behind_none, Falls}
 use Rattle.rk_merge.proofs.Unions.{union_from, union_to}
-use Rattle.rk_pointmerge.specs.Merges.{told_items, comes_before, shown, rank}
+use Rattle.rk_pointmerge.specs.Merges.{comes_before, shown, rank}
 use Rattle.rk_pointmerge.specs.Moves.{StandsNear, IsStraight}
 use Rattle.rk_pointmerge.proofs.Bests.{entry_total}
 use Rattle.rk_merge.proofs.Several.{pick}

@@ -3,12 +3,13 @@ use Rattle.std.proofs.Common.{◌≡◌, ℕ, zero, suc, ◌+◌, ◌-◌, ◌<�
 use Rattle.std.proofs.lemmas.Bool.{cases_lt}
 use Rattle.std.specs.Option.{option_map_or}
 use Rattle.std.specs.Ordering.{is_lt}
+use Rattle.rk_merge.specs.Several.{told_items}
 use Rattle.rk_key.specs.Keys.{key_cmp}
 use Rattle.rk_model.specs.Sources.{Seen, ReadsAreBounded, op_key, behind_cut, before_cut, next_reads, prev_reads, points_below}
 use Rattle.rk_model.specs.declared.op.Entry.{Entry}
 use Rattle.rk_merge.specs.Cuts.{place_near, step_place}
 use Rattle.rk_merge.proofs.Cuts.{behind_some, behind_none, before_suc, cut_within, cross}
-use Rattle.rk_pointmerge.specs.Merges.{reach, step_most, turn_most, told_items, turn_at_last, turning_reads, end_reads}
+use Rattle.rk_pointmerge.specs.Merges.{reach, step_most, turn_most, turn_at_last, turning_reads, end_reads}
 use Rattle.rk_model.specs.Runs.{at_rest, IsWithin}
 use Rattle.rk_model.proofs.Runs.{rest_steps, rest_count}
 use Rattle.rk_model.specs.Reads.{sum_to}

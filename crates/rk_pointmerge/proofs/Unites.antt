@@ -3,13 +3,14 @@ use Rattle.std.proofs.Common.{◌≡◌, ℕ, zero, suc, ◌<◌, length, map, A
 use Rattle.std.proofs.lemmas.Bool.{cases_lt}
 use Rattle.std.specs.List.{list_all}
 use Rattle.std.specs.Ordering.{is_lt}
+use Rattle.rk_merge.specs.Several.{told_items}
 use Rattle.rk_model.specs.Sources.{Seen, ascends, are_points, entry_cmp, item_at, count_before}
 use Rattle.rk_model.specs.declared.op.Entry.{Entry}
 use Rattle.rk_merge.specs.Unions.{union}
 use Rattle.rk_merge.specs.Cuts.{place_near, near_cut}
 use Rattle.rk_merge.proofs.Lists.{and_parts}
 use Rattle.rk_merge.proofs.Cuts.{near_item, cut_within, behind_some, behind_none, before_suc}
-use Rattle.rk_pointmerge.specs.Merges.{united, told_items, comes_before, shown}
+use Rattle.rk_pointmerge.specs.Merges.{united, comes_before, shown}
 use Rattle.rk_pointmerge.specs.Moves.{StandsNear}
 
 module _ {S : Type 0} (seen : S → Seen Entry) where

@@ -7,8 +7,8 @@ use Rattle.rk_model.specs.Sources.{Seen, are_points, sound_points, ReadsAreBound
 use Rattle.rk_model.specs.SourceLaws.{sound_points-sorted}
 use Rattle.rk_model.specs.declared.op.Entry.{Entry}
 use Rattle.rk_merge.specs.Unions.{union}
-use Rattle.rk_merge.specs.Several.{total}
-use Rattle.rk_pointmerge.specs.Merges.{united, merged, merged_place, merged_turn, told_items, comes_before}
+use Rattle.rk_merge.specs.Several.{total, told_items}
+use Rattle.rk_pointmerge.specs.Merges.{united, merged, merged_place, merged_turn, comes_before}
 
 sorted_if : (b : Bool) (es : List Entry) → IfSome (if b then sound_points es else None) (λ xs. IsTrue (are_points xs))
 sorted_if true es = sound_points-sorted es

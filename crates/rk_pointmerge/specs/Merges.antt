@@ -1,6 +1,6 @@
 -- What a merge of sources of points is: the union of what they hold, and the place of the entry that is the
 -- nearest of theirs in the direction in which they stand.
-use Rattle.std.specs.Prelude.{ℕ, ◌+◌, ◌-◌, ◌*◌, nat_lt, nat_eq, Bool, true, false, not, List, [], length, map, if◌then◌else◌, Option, Some, None, is_some, unwrap_or, slice_get, option_map, option_and_then}
+use Rattle.std.specs.Prelude.{ℕ, ◌+◌, ◌-◌, ◌*◌, nat_lt, nat_eq, Bool, true, false, not, List, length, map, if◌then◌else◌, Option, Some, None, is_some, slice_get, option_map, option_and_then}
 use Rattle.std.specs.List.{list_all}
 use Rattle.std.specs.Option.{option_map_or}
 use Rattle.std.specs.Ordering.{is_lt}
@@ -9,7 +9,7 @@ use Rattle.rk_model.specs.declared.op.Entry.{Entry}
 use Rattle.rk_model.specs.Reads.{sum_to}
 use Rattle.rk_merge.specs.Unions.{union}
 use Rattle.rk_merge.specs.Cuts.{cut_past, place_near}
-use Rattle.rk_merge.specs.Several.{total, any_names}
+use Rattle.rk_merge.specs.Several.{total, any_names, told_items}
 
 abbrev pub comes_before : Entry → Entry → Bool
 comes_before e f = is_lt (entry_cmp e f)
@@ -18,10 +18,7 @@ comes_before e f = is_lt (entry_cmp e f)
 abbrev pub rank : Entry → List Entry → ℕ
 rank e es = count_before (λ f. comes_before f e) es
 
--- what a source holds, where it is told, and the entry at its place
-abbrev pub told_items : Seen Entry → List Entry
-told_items s = unwrap_or s.held []
-
+-- the entry at a source's place, where it is told
 abbrev pub shown : Seen Entry → Option Entry
 shown s = item_at (told_items s) s.place
 

@@ -9,8 +9,8 @@ use Rattle.rk_merge.specs.Cuts.{place_near, cut_at, cut_past, is_nearer, step_pl
 use Rattle.rk_model.specs.Runs.{IsWithin}
 use Rattle.rk_model.specs.Reads.{sum_to}
 use Rattle.rk_merge.specs.Directions.{turn_to}
-use Rattle.rk_merge.specs.Several.{total}
-use Rattle.rk_pointmerge.specs.Merges.{comes_before, told_items, shown, united, merged_place, come, reach, turn_at_last, turning_reads}
+use Rattle.rk_merge.specs.Several.{total, told_items}
+use Rattle.rk_pointmerge.specs.Merges.{comes_before, shown, united, merged_place, come, reach, turn_at_last, turning_reads}
 
 -- the source stands next to the cut that a test makes, ahead of it or back
 abbrev pub StandsNear : Bool → (Entry → Bool) → Seen Entry → Type 0

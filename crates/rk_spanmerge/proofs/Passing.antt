@@ -4,6 +4,7 @@ use Rattle.std.proofs.Common.{◌≡◌, ℕ, ◌+◌, ◌<◌, ◌≤◌, lengt
 use Rattle.std.specs.Option.{option_or}
 use Rattle.std.proofs.lemmas.Option.{slice_get_within}
 use Rattle.std.proofs.lemmas.Bool.{cases_lt}
+use Rattle.rk_merge.specs.Several.{told_items}
 use Rattle.rk_key.specs.Laws.{key_cmp-total}
 use Rattle.rk_key.proofs.TotalOrders.{lt_back, lt_ge, ge_lt, ge_trans}
 use Rattle.rk_model.specs.Sources.{Seen, count_before, item_at, behind_cut, before_cut}
@@ -11,7 +12,7 @@ use Rattle.rk_model.specs.declared.span.Span.{Span}
 use Rattle.rk_merge.specs.Unions.{Among}
 use Rattle.rk_merge.specs.Cuts.{first_behind, last_before, near_cut, place_near, step_place}
 use Rattle.rk_merge.proofs.Cuts.{near_is, near_item, cut_all, cut_none, behind_some, behind_none, before_suc}
-use Rattle.rk_spanmerge.specs.Merges.{left_end, told_items}
+use Rattle.rk_spanmerge.specs.Merges.{left_end}
 use Rattle.rk_spanmerge.specs.Moves.{lt, takes, passes, turns, Stands, Passed}
 use Rattle.rk_spanmerge.proofs.Chains.{Chain, proper_of, ahead_none, back_none, true_false}
 

@@ -10,9 +10,9 @@ use Rattle.rk_model.specs.declared.span.Span.{Span}
 use Rattle.rk_fragment.specs.Fragments.{keys_over}
 use Rattle.rk_merge.specs.Unions.{Among}
 use Rattle.rk_model.proofs.Members.{among_append, among_left, among_right}
-use Rattle.rk_merge.specs.Several.{all_rest}
+use Rattle.rk_merge.specs.Several.{all_rest, told_items}
 use Rattle.rk_merge.proofs.Lists.{and_parts}
-use Rattle.rk_spanmerge.specs.Merges.{span_ends, told_items, pooled, united, are_distinct, cut_spans}
+use Rattle.rk_spanmerge.specs.Merges.{span_ends, pooled, united, are_distinct, cut_spans}
 use Rattle.rk_spanmerge.specs.Moves.{lt}
 use Rattle.rk_spanmerge.proofs.Sources.{rest_united, rest_pooled}
 use Rattle.rk_spanmerge.proofs.Chains.{Chain, chain_of, proper_of, keys_over_cons}

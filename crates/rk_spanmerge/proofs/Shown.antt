@@ -5,6 +5,7 @@ use Rattle.std.specs.Prelude.{IsTrue}
 use Rattle.std.proofs.lemmas.Bool.{cases_eq}
 use Rattle.std.proofs.lemmas.List.{drop_all}
 use Rattle.std.specs.List.{list_all, flat_map}
+use Rattle.rk_merge.specs.Several.{told_items}
 use Rattle.rk_key.specs.Laws.{key_cmp-total}
 use Rattle.rk_key.proofs.TotalOrders.{ge_trans, lt_trans}
 use Rattle.rk_model.specs.Lists.{none_of}
@@ -16,7 +17,7 @@ use Rattle.rk_merge.specs.Unions.{Among}
 use Rattle.rk_merge.specs.Cuts.{near_cut, place_near}
 use Rattle.rk_merge.proofs.Cuts.{near_is, near_item}
 use Rattle.rk_merge.proofs.Several.{any_default}
-use Rattle.rk_spanmerge.specs.Merges.{keys_at, left_end, span_ends, told_items, pooled, united}
+use Rattle.rk_spanmerge.specs.Merges.{keys_at, left_end, span_ends, pooled, united}
 use Rattle.rk_spanmerge.specs.Moves.{lt, takes, shown, Stands, AllStand, is_past, is_nearer, end_seen, nearer_of, with_end, keys_met, first_end, NoneNearer, IsNearestEnd, IsBetween, insert_all, Shows}
 use Rattle.rk_spanmerge.proofs.Chains.{Chain, over_is, over_back, ahead_none, ahead_some, back_none, back_some, Nearest, Neither, true_false}
 use Rattle.rk_spanmerge.proofs.Pools.{whole, told_at, told_if, in_pool, all_pool, ends_in, ends_from, keys_over_append, chain_at}

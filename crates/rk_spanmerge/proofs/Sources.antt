@@ -5,9 +5,9 @@ use Rattle.rk_outside.specs.declared.error.SourceError.{SourceError}
 use Rattle.rk_model.specs.Sources.{Seen}
 use Rattle.rk_model.specs.declared.span.Span.{Span}
 use Rattle.rk_model.proofs.Runs.{ran_from, ran_none, ran_runs, ran_refused}
-use Rattle.rk_merge.specs.Several.{total, all_rest, names_of}
+use Rattle.rk_merge.specs.Several.{total, all_rest, names_of, told_items}
 use Rattle.rk_merge.proofs.Several.{told_rest, rest_total, names_rest, untold as untold_one}
-use Rattle.rk_spanmerge.specs.Merges.{united, pooled, told_items}
+use Rattle.rk_spanmerge.specs.Merges.{united, pooled}
 use Rattle.rk_spanmerge.specs.Moves.{Seeks}
 
 module _ {S : Type 0} (seen : S → Seen Span) where

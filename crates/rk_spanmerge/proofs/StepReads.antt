@@ -10,12 +10,12 @@ use Rattle.rk_model.specs.declared.span.Span.{Span}
 use Rattle.rk_model.specs.Reads.{sum_to}
 use Rattle.rk_merge.specs.Directions.{go_reads}
 use Rattle.rk_merge.specs.Unions.{Among}
-use Rattle.rk_merge.specs.Several.{total}
+use Rattle.rk_merge.specs.Several.{total, told_items}
 use Rattle.rk_merge.specs.Cuts.{place_near}
 use Rattle.rk_model.proofs.Sums.{sum_to-at}
 use Rattle.rk_merge.proofs.Cuts.{before_suc}
 use Rattle.rk_merge.proofs.Totals.{total_le, total_sum, total_zero}
-use Rattle.rk_spanmerge.specs.Merges.{left_end, told_items, united, merged, merged_steps, merged_turn, turn_from, span_place, step_most, on_reads, back_reads}
+use Rattle.rk_spanmerge.specs.Merges.{left_end, united, merged, merged_steps, merged_turn, turn_from, span_place, step_most, on_reads, back_reads}
 use Rattle.rk_spanmerge.specs.Moves.{takes, passes, turns, shown, Stands, Arrives, shown_reads, pass_reads}
 use Rattle.rk_spanmerge.proofs.Chains.{Chain}
 use Rattle.rk_spanmerge.proofs.Pools.{whole, told_at, told_if, chain_at}

@@ -6,12 +6,12 @@ use Rattle.rk_model.specs.Sources.{Seen, are_spans, count_before}
 use Rattle.rk_model.specs.Runs.{IsWithin}
 use Rattle.rk_model.specs.declared.span.Span.{Span}
 use Rattle.rk_merge.specs.Unions.{Among}
-use Rattle.rk_merge.specs.Several.{all_rest}
+use Rattle.rk_merge.specs.Several.{all_rest, told_items}
 use Rattle.rk_merge.specs.Cuts.{near_cut, place_near}
 use Rattle.rk_merge.proofs.Cuts.{cut_agree}
 use Rattle.rk_merge.proofs.Several.{rest_at, rest_length}
 use Rattle.rk_model.proofs.Runs.{rest_held}
-use Rattle.rk_spanmerge.specs.Merges.{left_end, span_ends, keys_at, told_items, pooled, united}
+use Rattle.rk_spanmerge.specs.Merges.{left_end, span_ends, keys_at, pooled, united}
 use Rattle.rk_spanmerge.specs.Moves.{lt, takes, first_end, Stands, AllStand, IsNearestEnd, Shows, Passed}
 use Rattle.rk_spanmerge.proofs.Sources.{rest_united, rest_pooled}
 use Rattle.rk_spanmerge.proofs.Pools.{told_before, whole, in_pool, ends_in, chain_at, pool_proper}

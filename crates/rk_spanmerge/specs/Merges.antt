@@ -1,5 +1,5 @@
 -- What a merge of sources of spans is: the spans of all of them, cut at each other's ends.
-use Rattle.std.specs.Prelude.{◌≡◌, IsTrue, ℕ, ◌*◌, ◌+◌, ◌-◌, ◌^◌, nat_lt, Bool, true, false, ◌&&◌, ◌||◌, not, List, [], ◌∷◌, length, slice_get, if◌then◌else◌, Option, Some, None, is_some, unwrap_or, option_map}
+use Rattle.std.specs.Prelude.{◌≡◌, IsTrue, ℕ, ◌*◌, ◌+◌, ◌-◌, ◌^◌, nat_lt, Bool, true, false, ◌&&◌, ◌||◌, not, List, [], ◌∷◌, length, slice_get, if◌then◌else◌, Option, Some, None, is_some, option_map}
 use Rattle.std.specs.List.{AllByRecursion, list_all, flat_map}
 use Rattle.std.specs.Option.{option_map_or}
 use Rattle.std.specs.Ordering.{is_eq}
@@ -10,7 +10,7 @@ use Rattle.rk_model.specs.declared.span.RangeKey.{RangeKey}
 use Rattle.rk_model.specs.declared.span.Span.{Span}
 use Rattle.rk_model.specs.Reads.{sum_to}
 use Rattle.rk_fragment.specs.Fragments.{newest_first, spans_between, keys_over, KeysDiffer}
-use Rattle.rk_merge.specs.Several.{total, any_names}
+use Rattle.rk_merge.specs.Several.{total, any_names, told_items}
 
 -- the starts and ends of spans
 abbrev pub span_ends : List Span → List (List ℕ)
@@ -27,10 +27,6 @@ cut_spans ss = spans_between (keys_at ss) (sorted_keys (span_ends ss))
 -- keys that no order tells apart are one key, as keys are that were read
 abbrev pub are_distinct : List (List ℕ) → Bool
 are_distinct xs = list_all (λ x. list_all (λ y. not (is_eq (key_cmp x y)) || same_bytes x y) xs) xs
-
--- what a source holds, where it is told
-abbrev pub told_items : Seen Span → List Span
-told_items s = unwrap_or s.held []
 
 abbrev pub pooled : {S : Type 0} → (S → Seen Span) → List S → List Span
 pooled seen ss = flat_map (λ s. told_items (seen s)) ss

@@ -11,10 +11,10 @@ use Rattle.rk_model.specs.declared.span.RangeKey.{RangeKey}
 use Rattle.rk_model.specs.declared.span.Span.{Span}
 use Rattle.rk_fragment.specs.Fragments.{insert_newest}
 use Rattle.rk_merge.specs.Unions.{Among}
-use Rattle.rk_merge.specs.Several.{total, all_rest, names_of}
+use Rattle.rk_merge.specs.Several.{total, all_rest, names_of, told_items}
 use Rattle.rk_merge.specs.Cuts.{place_near, step_place}
 use Rattle.rk_merge.specs.Directions.{go_reads}
-use Rattle.rk_spanmerge.specs.Merges.{Merging, left_end, span_ends, keys_at, told_items, united}
+use Rattle.rk_spanmerge.specs.Merges.{Merging, left_end, span_ends, keys_at, united}
 
 abbrev pub lt : List ℕ → List ℕ → Bool
 lt x y = is_lt (key_cmp x y)
