@@ -51,6 +51,14 @@ impl<T: Drop> From<AllocFailed<T>> for LineError {
     }
 }
 
+impl From<AllocError> for ScriptError {
+    ghost from_gives = { λ _ e. e ≡ script_error.Memory };
+
+    fn from(_: AllocError) -> Self {
+        ScriptError::Memory
+    }
+}
+
 impl<T: Drop> From<AllocFailed<T>> for ScriptError {
     ghost from_gives = { λ _ e. e ≡ script_error.Memory };
 
