@@ -7,7 +7,7 @@ ghost use Rattle.rk_outside.specs.declared.error.SourceError.TheVariants as sour
 ghost use Rattle.rk_outside.specs.declared.error.BuildError.TheVariants as build_error;
 ghost use Rattle.rk_outside.specs.declared.error.StoreError.TheVariants as store_error;
 
-use crate::{BuildError, NoMemory, SinkError, SourceError, StoreError, VaultError};
+use crate::{BuildError, Failed, NoMemory, SinkError, SourceError, StoreError, VaultError};
 use std::alloc::{AllocError, AllocFailed};
 
 impl From<AllocError> for NoMemory {
@@ -59,6 +59,14 @@ impl<T: Drop> From<AllocFailed<T>> for VaultError {
 
     fn from(_: AllocFailed<T>) -> Self {
         VaultError::Memory
+    }
+}
+
+impl From<Failed> for VaultError {
+    ghost from_gives = { λ _ e. e ≡ vault_error.Failed };
+
+    fn from(_: Failed) -> Self {
+        VaultError::Failed
     }
 }
 
