@@ -1,0 +1,4 @@
+pub mod Honesty
+pub mod Images
+pub mod Records
+pub mod Slots
