@@ -11,7 +11,7 @@ use Rattle.rk_model.proofs.Lists.{all_weaker}
 pub lt_is : (m n : ℕ) → nat_lt m n ≡ true → m < n
 lt_is m n h = grind (arith, nat_tests)
 
-ge_is : (m n : ℕ) → nat_lt m n ≡ false → n ≤ m
+pub ge_is : (m n : ℕ) → nat_lt m n ≡ false → n ≤ m
 ge_is m n h = grind (arith, nat_tests)
 
 pub lt_says : (m n : ℕ) → m < n → nat_lt m n ≡ true

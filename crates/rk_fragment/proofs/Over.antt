@@ -10,13 +10,10 @@ use Rattle.rk_model.specs.declared.op.Op.TheVariants.{Put, Del, RangeSet, RangeU
 use Rattle.rk_model.specs.declared.op.Entry.{Entry}
 use Rattle.rk_model.specs.declared.span.RangeKey.{RangeKey}
 use Rattle.rk_fragment.specs.Fragments.{range_key, newest_first, keys_at}
+use Rattle.rk_fragment.specs.Intervals.{key_over}
 use Rattle.rk_fragment.proofs.Order.{lt}
 use Rattle.rk_model.proofs.Lists.{all_weaker}
 use Rattle.rk_fragment.proofs.Rising.{IsIn, EndsIn}
-
--- the range key of an entry, where the entry is over the key
-abbrev pub key_over : List ℕ → ℕ → Op → Option RangeKey
-key_over x n op = cond (is_over x op) (range_key n op) None
 
 pub over_keys : (x : List ℕ) (es : List Entry) → filter_map (λ e. range_key e.seq e.op) (over x es) ≡ filter_map (λ e. key_over x e.seq e.op) es
 over_keys x [] = refl
@@ -40,12 +37,9 @@ keys_none x es h = ap newest_first (over_keys x es ∙ go es h)
     go [] h = refl
     go (e ∷ es) h = rw h.0 (go es h.1)
 
-pub same_if : {X : Type 0} (b : Bool) (x : X) → cond b x x ≡ x
-same_if true x = refl
-same_if false x = refl
-
-never : (b : Bool) → cond {A = Option RangeKey} b None None ≡ None
-never b = same_if b None
+pub never : (b : Bool) → cond {A = Option RangeKey} b None None ≡ None
+never true = refl
+never false = refl
 
 pub and_false : (b : Bool) → (b && false) ≡ false
 and_false true = refl

@@ -1,23 +1,23 @@
 -- What loops over intervals do.
-use Rattle.std.proofs.Common.{◌≡◌, ℕ, zero, suc, ◌+◌, ◌-◌, ◌<◌, ◌≤◌, true, false, cond, List, [], ◌∷◌, ◌++◌, length, get_or, take, drop, map, Option, Some, None, inl, inr, refl, ap, sym, ◌∙◌, arith}
+use Rattle.std.proofs.Common.{◌≡◌, ℕ, zero, suc, ◌+◌, ◌-◌, ◌<◌, ◌≤◌, true, false, List, [], ◌∷◌, ◌++◌, length, get_or, take, drop, map, Option, Some, None, inl, inr, refl, ap, sym, ◌∙◌, arith}
 use Rattle.std.specs.Prelude.{not}
-use Rattle.std.specs.List.{AllByRecursion, filter_map, cons_option}
+use Rattle.std.specs.List.{AllByRecursion, filter_map, cons_option, slice_get}
 use Rattle.std.specs.List.Sorted.{IsPartitionedBy, IsPartitionPoint}
 use borrow.Rule.Slice.PartMut.{put_mid}
 use Rattle.std.proofs.lemmas.Bool.{cases_lt}
-use Rattle.std.specs.Option.{option_map_or}
+use Rattle.std.specs.Option.{option_and_then, option_to_list}
+use Rattle.std.proofs.lemmas.List.{append-nil}
 use Rattle.rk_model.specs.Operations.{within, is_over}
-use Rattle.rk_model.specs.Covers.{over}
 use Rattle.rk_model.specs.Spans.{op_ends, KeysRise}
 use Rattle.rk_model.specs.declared.op.Op.{Op}
 use Rattle.rk_model.specs.declared.op.Op.TheVariants.{Put, Del, RangeSet, RangeUnset, RangeDel}
 use Rattle.rk_model.specs.declared.op.Entry.{Entry}
 use Rattle.rk_model.specs.declared.span.RangeKey.{RangeKey}
-use Rattle.rk_fragment.specs.Fragments.{range_key, newest_first, keys_at, span_with}
-use Rattle.rk_fragment.specs.Intervals.{starts, with_key, with_entry, interval_at, spans_from, spans_of}
+use Rattle.rk_fragment.specs.Fragments.{range_key, keys_at, span_with}
+use Rattle.rk_fragment.specs.Intervals.{starts, key_over, with_key, with_entry, interval_at, Rank, key_at, keys_of, GiveKeys, spans_from, spans_of}
 use Rattle.rk_fragment.specs.declared.intervals.Interval.{Interval}
 use Rattle.rk_fragment.proofs.Order.{lt, lt_trans}
-use Rattle.rk_fragment.proofs.Over.{same_if, and_false}
+use Rattle.rk_fragment.proofs.Over.{never, and_false}
 use Rattle.rk_fragment.proofs.Exact.{spans_along}
 
 all_at : (P : List ℕ → Type 0) (is : List Interval) (k : ℕ) (d : Interval) → AllByRecursion P (starts is) → k < length is → P (get_or is k d).start
@@ -55,9 +55,13 @@ module _ {X : Type 0} (f g : X → X) where
   part_map (x ∷ xs) (suc n) m b h t =
       rw (b zero x (omega arith) (omega arith), part_map xs n m (λ k d l n. b (suc k) d (omega arith) (omega arith)) (λ k d l n o. h (suc k) d (omega arith) (omega arith) (omega arith)) (λ k d l n. t (suc k) d (omega arith) (omega arith))) refl
 
+-- an interval to which no range key comes
+same_none : (i : Interval) (o : Option RangeKey) → o ≡ None → record { start = i.start; keys = i.keys ++ option_to_list o } ≡ i
+same_none i o h = rw h (ap (λ keys. let j : Interval = record { start = i.start; keys = keys } in j) (append-nil i.keys))
+
 -- an entry that has no range key changes no interval
 pub without_key : (e : Entry) (i : Interval) → range_key e.seq e.op ≡ None → with_entry e i ≡ i
-without_key e i h = rw h (same_if (is_over i.start e.op) i)
+without_key e i h = same_none i (key_over i.start e.seq e.op) (rw h (never (is_over i.start e.op)))
 
 pub point_has_no_key : (n : ℕ) (op : Op) → op_ends op ≡ [] → range_key n op ≡ None
 point_has_no_key n (Put key value) h = refl
@@ -76,10 +80,10 @@ over_is (RangeDel start end) s t x h = let a : start ≡ s = cc in let b : end �
 -- an interval that begins outside of an entry, and one that begins within it
 module _ (e : Entry) (s t : List ℕ) (is_span : op_ends e.op ≡ s ∷ t ∷ []) where
   pub before_start : (i : Interval) → lt i.start s ≡ true → with_entry e i ≡ i
-  before_start i h = rw (over_is e.op s t i.start is_span) (rw h refl)
+  before_start i h = same_none i (key_over i.start e.seq e.op) (rw (over_is e.op s t i.start is_span) (rw h refl))
 
   pub from_end : (i : Interval) → lt i.start t ≡ false → with_entry e i ≡ i
-  from_end i h = rw (over_is e.op s t i.start is_span) (rw (h, and_false (not (lt i.start s))) refl)
+  from_end i h = same_none i (key_over i.start e.seq e.op) (rw (over_is e.op s t i.start is_span) (rw (h, and_false (not (lt i.start s))) refl))
 
   pub inside : (i : Interval) (key : RangeKey) → range_key e.seq e.op ≡ Some key → lt i.start s ≡ false → lt i.start t ≡ true → with_entry e i ≡ with_key key i
   inside i key k h l = rw (over_is e.op s t i.start is_span) (rw (h, l, k) refl)
@@ -109,26 +113,42 @@ module _ (e : Entry) (s t : List ℕ) (is_span : op_ends e.op ≡ s ∷ t ∷ []
       each : (k : ℕ) (d : Interval) → k < length all → with_entry e (get_or all k d) ≡ get_or all k d
       each k d l = elim (cases_lt k from) [ inl h ↦ early k d h | inr h ↦ late k d (omega arith) l ]
 
--- one entry more
-pub keys_more : (e : Entry) (es : List Entry) (x : List ℕ) → with_entry e (interval_at es x) ≡ interval_at (e ∷ es) x
-keys_more e es x =
-    let keys_of : List Entry → List RangeKey = λ l. newest_first (filter_map (λ e. range_key e.seq e.op) l) in
-    elim (is_over x e.op) as (λ b. cond b (option_map_or (λ k. with_key k (interval_at es x)) (range_key e.seq e.op) (interval_at es x)) (interval_at es x) ≡ record { start = x; keys = keys_of (cond b (e ∷ over x es) (over x es)) }) [
-      | true ↦ put (range_key e.seq e.op)
-      | false ↦ refl
-    ]
+-- the interval of a written end, with the range keys of the entries at the places of ranks
+abbrev pub painted : List Entry → List Rank → List ℕ → Interval
+painted es ranks a = record { start = a; keys = keys_of es ranks a }
+
+push_key : {X Y : Type 0} (f : X → Option Y) (xs : List X) (x : X) → filter_map f (xs ++ x ∷ []) ≡ filter_map f xs ++ option_to_list (f x)
+push_key {Y = Y} f [] x = one (f x)
   where
-    put : (o : Option RangeKey) → option_map_or (λ k. with_key k (interval_at es x)) o (interval_at es x) ≡ record { start = x; keys = newest_first (cons_option o (filter_map (λ e. range_key e.seq e.op) (over x es))) }
-    put None = refl
-    put (Some k) = refl
+    one : (o : Option Y) → cons_option o [] ≡ option_to_list o
+    one None = refl
+    one (Some y) = refl
+push_key {Y = Y} f (y ∷ ys) x = ap (cons_option (f y)) (push_key f ys x) ∙ one (f y)
+  where
+    one : (o : Option Y) → cons_option o (filter_map f ys ++ option_to_list (f x)) ≡ cons_option o (filter_map f ys) ++ option_to_list (f x)
+    one None = refl
+    one (Some z) = refl
 
-pub intervals_more : (e : Entry) (es : List Entry) (ends : List (List ℕ)) → map (with_entry e) (map (interval_at es) ends) ≡ map (interval_at (e ∷ es)) ends
-intervals_more e es [] = refl
-intervals_more e es (x ∷ xs) = rw (keys_more e es x, intervals_more e es xs) refl
+-- with the entry at one place more
+pub painted_more : (es : List Entry) (ranks : List Rank) (r : Rank) (e : Entry) (ends : List (List ℕ)) → slice_get es r.1 ≡ Some e
+    → map (with_entry e) (map (painted es ranks) ends) ≡ map (painted es (ranks ++ r ∷ [])) ends
+painted_more es ranks r e [] h = refl
+painted_more es ranks r e (a ∷ ends) h =
+    let here : keys_of es (ranks ++ r ∷ []) a ≡ keys_of es ranks a ++ option_to_list (key_over a e.seq e.op) =
+    push_key (λ r. key_at es a r.1) ranks r ∙ ap (λ o. keys_of es ranks a ++ option_to_list (option_and_then (λ e. key_over a e.seq e.op) o)) h in
+    rw (here, painted_more es ranks r e ends h) refl
 
-pub starts_of : (es : List Entry) (ends : List (List ℕ)) → starts (map (interval_at es) ends) ≡ ends
-starts_of es [] = refl
-starts_of es (x ∷ xs) = ap (λ l. x ∷ l) (starts_of es xs)
+pub painted_all : (es : List Entry) (ranks : List Rank) (ends : List (List ℕ)) → GiveKeys es ranks → map (painted es ranks) ends ≡ map (interval_at es) ends
+painted_all es ranks [] h = refl
+painted_all es ranks (a ∷ ends) h = rw (h a, painted_all es ranks ends h) refl
+
+pub bare_starts : (ends : List (List ℕ)) → starts (map (λ a. record { start = a; keys = [] }) ends) ≡ ends
+bare_starts [] = refl
+bare_starts (x ∷ xs) = ap (λ l. x ∷ l) (bare_starts xs)
+
+pub starts_of : (es : List Entry) (ranks : List Rank) (ends : List (List ℕ)) → starts (map (painted es ranks) ends) ≡ ends
+starts_of es ranks [] = refl
+starts_of es ranks (x ∷ xs) = ap (λ l. x ∷ l) (starts_of es ranks xs)
 
 spans_from_ends : (es : List Entry) (a : List ℕ) (ends : List (List ℕ)) → spans_from (interval_at es a) (map (interval_at es) ends) ≡ spans_along es (a ∷ ends)
 spans_from_ends es a [] = refl

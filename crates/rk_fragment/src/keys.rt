@@ -1,5 +1,5 @@
 // Range keys by falling numbers.
-ghost use Rattle.std.specs.Prelude.{◌≡◌, ◌≤◌, nat_lt, true, false, [], length, IfOk, OnOk, OnErr};
+ghost use Rattle.std.specs.Prelude.{◌≡◌, ◌≤◌, nat_lt, true, false, [], ◌∷◌, ◌++◌, length, IfOk, OnOk, OnErr};
 ghost use Rattle.std.specs.List.Sorted.{IsPartitionPoint};
 ghost use Rattle.rk_model.specs.Lists.{none_of};
 ghost use Rattle.rk_fragment.specs.Fragments.{range_key, insert_newest, FallsBy};
@@ -61,6 +61,62 @@ impl NewestFirst {
 
     /// The range keys of a span.
     pub fn into_keys(self) -> RangeKeys
+        ensures { result ≡ self }
+    {
+        RangeKeys::from_vec(self.keys)
+    }
+}
+
+/// Range keys, each behind those that were pushed before. Contracts see the list.
+#[derive(Debug, Drop)]
+pub(crate) struct KeyList {
+    keys: Vec<RangeKey>,
+}
+
+impl Model for KeyList {
+    ghost use Rattle.std.specs.Prelude.{List};
+    ghost use Rattle.rk_model.specs.declared.span.RangeKey.{RangeKey};
+
+    ghost Value = { List RangeKey };
+
+    ghost view = { λ k. k.keys.items };
+}
+
+impl KeyList {
+    /// No range keys yet. It takes no memory.
+    pub(crate) fn new(alloc: Global) -> KeyList
+        ensures { result ≡ [] }
+    {
+        KeyList {
+            keys: Vec::new(alloc),
+        }
+    }
+
+    /// Makes room for so many more, and no more than that.
+    pub(crate) fn reserve(&mut self, count: usize) -> Result<(), NoMemory>
+        ensures { OnOk result (self.new ≡ self.old) }
+    {
+        self.keys.reserve_exact(count)?;
+        Ok(())
+    }
+
+    /// Whether there are none.
+    pub(crate) fn has_none(&self) -> bool
+        ensures { result ≡ none_of self.now }
+    {
+        matches!(self.keys.as_slice(), [])
+    }
+
+    /// Puts a key behind the others.
+    pub(crate) fn push(&mut self, key: RangeKey) -> Result<(), NoMemory>
+        ensures { OnOk result (self.new ≡ self.old ++ key ∷ []) }
+    {
+        self.keys.push(key)?;
+        Ok(())
+    }
+
+    /// The range keys of a span.
+    pub(crate) fn into_keys(self) -> RangeKeys
         ensures { result ≡ self }
     {
         RangeKeys::from_vec(self.keys)

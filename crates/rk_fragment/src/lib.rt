@@ -13,12 +13,10 @@ mod fragmenter;
 mod intervals;
 mod keys;
 mod laws;
+mod newest;
 mod spans;
 
 pub use fragmenter::Fragmenter;
 pub use keys::NewestFirst;
 pub use laws::{each_key_has_its_range_keys, fragments_are_spans};
 pub use spans::fragment;
-
-#[cfg(test)]
-mod tests;

@@ -44,6 +44,8 @@ fn spans_of(alloc: Global, intervals: Vec<Interval>) -> Result<Vec<Span>, NoMemo
 /// the entries over it, newest first; those with one number stay in the order of the entries. Puts and dels
 /// are passed over.
 ///
+/// It sorts the entries and their ends, and copies one range key for each span that an entry is over.
+///
 /// # Errors
 ///
 /// `NoMemory` where the spans find no memory.
