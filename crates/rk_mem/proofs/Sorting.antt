@@ -18,7 +18,7 @@ use Rattle.rk_model.specs.declared.op.Entry.{Entry}
 use Rattle.rk_mem.specs.Chunks.{points_of}
 use Rattle.rk_mem.proofs.Numbers.{has_number, count, count_is, counted, one_with}
 
-entry_total : IsTotalOrder entry_cmp
+pub entry_total : IsTotalOrder entry_cmp
 entry_total = then_total (on_total (λ e. op_key e.op) key_cmp-total) (on_total (λ e. e.seq) (back_total nat_cmp_total))
 
 abbrev pub precedes : Entry → Entry → Bool
@@ -36,7 +36,7 @@ same_number e f h = ranked f.seq e.seq Equal (sym (go (key_cmp (op_key e.op) (op
     go Greater h = cc
 
 -- two neighbours with different numbers
-less : (e f : Entry) → precedes f e ≡ false → (f.seq ≡ e.seq → ⊥) → precedes e f ≡ true
+pub less : (e f : Entry) → precedes f e ≡ false → (f.seq ≡ e.seq → ⊥) → precedes e f ≡ true
 less e f h apart = go (entry_cmp e f) refl
   where
     go : (o : Ordering) → entry_cmp e f ≡ o → is_lt o ≡ true

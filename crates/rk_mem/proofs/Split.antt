@@ -1,5 +1,5 @@
 -- A chunk's points and its range entries.
-use Rattle.std.proofs.Common.{◌≡◌, ℕ, Bool, true, false, cond, List, [], ◌∷◌, ◌++◌, Some, None, filter, drop, refl, sym, ap, ◌∙◌}
+use Rattle.std.proofs.Common.{◌≡◌, ◌≢◌, ℕ, ◌<◌, Bool, true, false, cond, List, [], ◌∷◌, ◌++◌, Some, None, filter, drop, refl, sym, ap, subst, ◌∙◌, inl, inr, arith}
 use Rattle.std.specs.Prelude.{not, IsTrue}
 use Rattle.std.specs.List.{AllByRecursion, list_all, filter_map, flat_map, cons_option, zip}
 use Rattle.std.specs.List.Sorted.{IsPermutation}
@@ -8,6 +8,7 @@ use Rattle.std.proofs.lemmas.Bool.{and_parts, not-true}
 use Rattle.std.proofs.lemmas.List.{append-nil}
 use Rattle.std.proofs.lemmas.List.Elements.{filter-append}
 use Rattle.std.proofs.lemmas.List.Sorted.{IsPermutation-refl, IsPermutation-trans, IsPermutation-append, IsPermutation-filter_both}
+use Rattle.rk_model.proofs.Members.{among_all, all_among, among_append, filter_among}
 use Rattle.rk_model.proofs.Numbers.{some_differ}
 use Rattle.rk_model.specs.Operations.{is_over, NumbersDiffer}
 use Rattle.rk_model.specs.Covers.{is_point, over}
@@ -20,11 +21,11 @@ use Rattle.rk_model.specs.declared.span.RangeKey.{RangeKey}
 use Rattle.rk_fragment.specs.Fragments.{range_key, newest_first, span_with, fragments}
 use Rattle.rk_model.proofs.Lists.{all_weaker, all_pass, filter_all, filter_none}
 use Rattle.rk_fragment.proofs.Sound.{sound}
-use Rattle.rk_mem.specs.Chunks.{points_of, ranges_of, NumbersRise, IsChunkOf}
+use Rattle.rk_mem.specs.Chunks.{points_of, ranges_of, NumbersRise, AreNewer, IsChunkOf}
 use Rattle.rk_mem.specs.SortedOut.{AreSortedOut}
 use Rattle.rk_mem.proofs.Numbers.{rising_differ}
 
-all_true : {X : Type 0} (t : X → Bool) (xs : List X) → list_all t xs ≡ true → AllByRecursion (λ x. t x ≡ true) xs
+pub all_true : {X : Type 0} (t : X → Bool) (xs : List X) → list_all t xs ≡ true → AllByRecursion (λ x. t x ≡ true) xs
 all_true t [] h = tt
 all_true t (x ∷ xs) h = let parts = and_parts (t x) (list_all t xs) h in (parts.0, all_true t xs parts.1)
 
@@ -48,6 +49,10 @@ module _ (points ranges : List Entry) (in_order : IsTrue (are_points points)) (n
       ∙ (λ i. filter_none (λ e. not (is_point e.op)) points (all_weaker (λ e. is_point e.op ≡ true) (λ e. not (is_point e.op) ≡ false) (λ e h. ap not h) points are_all_points) i
       ++ filter_all (λ e. not (is_point e.op)) ranges (all_weaker (λ e. is_point e.op ≡ false) (λ e. not (is_point e.op) ≡ true) (λ e h. ap not h) ranges no_points) i)
 
+-- what a chunk keeps beside its points
+pub ranges_inside : (points ranges chunk : List Entry) → AreSortedOut points ranges → points ++ ranges ≡ chunk → ranges_of chunk ≡ ranges
+ranges_inside points ranges chunk out is = ap ranges_of (sym is) ∙ ranges_are points ranges out.in_order out.no_points
+
 no_points_in : (es : List Entry) → AllByRecursion (λ e. is_point e.op ≡ false) (ranges_of es)
 no_points_in es = all_weaker (λ e. not (is_point e.op) ≡ true) (λ e. is_point e.op ≡ false) (λ e h. not-true (is_point e.op) h) (ranges_of es) (all_pass (λ e. not (is_point e.op)) es)
 
@@ -60,10 +65,36 @@ chunk_is es points same order =
     let r : ranges_of (points ++ ranges_of es) ≡ ranges_of es = ranges_are points (ranges_of es) order (no_points_in es) in
     record {
       same = IsPermutation-trans es (points_of es ++ ranges_of es) (points ++ ranges_of es) (IsPermutation-filter_both (λ e. is_point e.op) (λ e. not (is_point e.op)) (λ e. refl) es) (IsPermutation-append (points_of es) points (ranges_of es) (ranges_of es) same (IsPermutation-refl (ranges_of es)));
-      parts = sym (λ i. p i ++ r i);
-      in_order = rw p order;
+      arranged = record { parts = sym (λ i. p i ++ r i); in_order = rw p order };
       ranges = r;
     }
+
+-- two chunks, of which the second is newer
+filter_newer : (t u : Entry → Bool) (old new : List Entry) → AreNewer old new → AreNewer (filter t old) (filter u new)
+filter_newer t u old new newer e f at_e at_f = newer e f (filter_among t old e at_e).0 (filter_among u new f at_f).0
+
+pub points_newer : (old new : List Entry) → AreNewer old new → AreNewer (points_of old) (points_of new)
+points_newer old new newer = filter_newer (λ e. is_point e.op) (λ e. is_point e.op) old new newer
+
+differ_append : (old new : List Entry) → NumbersDiffer old → NumbersDiffer new → AreNewer old new → NumbersDiffer (old ++ new)
+differ_append [] new d d' newer = d'
+differ_append (e ∷ old) new d d' newer =
+    (all_among (λ f. f.seq ≢ e.seq) (old ++ new) (λ f at. elim (among_append old new f at) [ inl m ↦ among_all (λ g. g.seq ≢ e.seq) old f d.0 m | inr m ↦ (let less : e.seq < f.seq = newer e f (inl refl) m in λ same. absurd (omega arith)) ]), differ_append old new d.1 d' (λ g f at_g at_f. newer g f (inr at_g) at_f))
+
+module _ (old new : List Entry) (newer : AreNewer old new) where
+  pub merged_sorted_out : (points : List Entry) → IsTrue (are_points points) → NumbersDiffer (ranges_of old) → NumbersDiffer (ranges_of new) → AreSortedOut points (ranges_of old ++ ranges_of new)
+  merged_sorted_out points order d d' = record {
+    in_order = order;
+    no_points = rw (← filter-append (λ e. not (is_point e.op)) old new) (no_points_in (old ++ new));
+    differ = differ_append (ranges_of old) (ranges_of new) d d' (filter_newer (λ e. not (is_point e.op)) (λ e. not (is_point e.op)) old new newer);
+  }
+
+pub merged_is : (old new points : List Entry) → IsPermutation (points_of old ++ points_of new) points → IsTrue (are_points points) → IsChunkOf (old ++ new) (points ++ (ranges_of old ++ ranges_of new))
+merged_is old new points same order =
+    let here : IsPermutation (points_of (old ++ new)) points = rw (filter-append (λ e. is_point e.op) old new) same in
+    let chunk : IsChunkOf (old ++ new) (points ++ ranges_of (old ++ new)) = chunk_is (old ++ new) points here order in
+    let joined : ranges_of (old ++ new) ≡ ranges_of old ++ ranges_of new = filter-append (λ e. not (is_point e.op)) old new in
+    subst (λ rs. IsChunkOf (old ++ new) (points ++ rs)) joined chunk
 
 -- Points make no spans.
 point_has_no_ends : (op : Op) → is_point op ≡ true → op_ends op ≡ []

@@ -1,3 +1,4 @@
 pub mod Chunks
 pub mod Memory
 pub mod SortedOut
+pub mod Towers

@@ -1,18 +1,18 @@
-// Memtables: lists of chunks that only grow, each time into a new one.
-ghost use Rattle.std.specs.Prelude.{◌≡◌, ◌+◌, ◌<◌, ◌^◌, map, IfOk};
+// Memtables: lists of chunks that only grow.
+ghost use Rattle.std.specs.Prelude.{◌≡◌, ◌+◌, ◌<◌, ◌^◌, map, length, IfOk};
 ghost use Rattle.std.specs.Arc.{arc_value};
-ghost use Rattle.rk_mem.specs.Chunks.{NumbersRise};
-ghost use Rattle.rk_mem.specs.Memory.{nothing, IsGrown};
+ghost use Rattle.rk_mem.specs.Chunks.{NumbersRise, AreNewer};
+ghost use Rattle.rk_mem.specs.Memory.{nothing, IsGrown, AreChunksOf};
 
 use crate::Chunk;
+use crate::tower::piled;
 use rk_model::Entry;
 use rk_outside::NoMemory;
 use std::alloc::Global;
 use std::marker::Model;
 use std::sync::Arc;
 
-/// Chunks, the newest last, and the size of what they were made of. Contracts see the list of the chunks, each
-/// as the list of its entries, and the size.
+/// Entries, and the size of what they were made of. Contracts see the list of the entries, and the size.
 #[derive(Debug, Drop)]
 pub struct Memtable {
     chunks: Vec<Arc<Chunk>>,
@@ -22,11 +22,14 @@ pub struct Memtable {
 impl Model for Memtable {
     ghost use Rattle.std.specs.Prelude.{map};
     ghost use Rattle.std.specs.Arc.{arc_value};
-    ghost use Rattle.rk_mem.specs.Memory.{Memory};
+    ghost use Rattle.rk_mem.specs.Memory.{Memory, entries_of};
+    ghost use Rattle.rk_mem.specs.Towers.{IsTower};
 
     ghost Value = { Memory };
 
-    ghost view = { λ m. record { chunks = map arc_value m.chunks.items; bytes = m.bytes } };
+    ghost view = { λ m. record { entries = entries_of (map arc_value m.chunks.items); bytes = m.bytes } };
+
+    ghost invariant = { λ m. IsTower (map arc_value m.chunks.items) };
 }
 
 fn share(alloc: Global, chunks: &[Arc<Chunk>]) -> Result<Vec<Arc<Chunk>>, NoMemory>
@@ -40,7 +43,7 @@ fn share(alloc: Global, chunks: &[Arc<Chunk>]) -> Result<Vec<Arc<Chunk>>, NoMemo
 }
 
 impl Memtable {
-    /// A memtable without chunks.
+    /// A memtable without entries.
     ///
     /// # Errors
     ///
@@ -54,20 +57,23 @@ impl Memtable {
         })
     }
 
-    /// A memtable with these entries too, as one more chunk, and with so many bytes more. The older chunks are
-    /// shared with this memtable, which stays as it was.
+    /// A memtable with these newer entries too, and with so many bytes more. They come into a chunk of their own.
+    /// While the next older chunk has fewer than twice as many entries, the two become one. All other chunks are
+    /// shared with this memtable, which stays as it was, as do the chunks that were pinned.
     ///
     /// # Errors
     ///
-    /// `NoMemory` where the chunk or the list of chunks finds no memory.
+    /// `NoMemory` where a chunk or the list of chunks finds no memory.
     pub fn grown(&self, entries: &[Entry], bytes: u64) -> Result<Memtable, NoMemory>
+        requires some { 0 < length entries.now }
         requires rise { NumbersRise entries.now }
+        requires newer { AreNewer self.now.entries entries.now }
         requires fits { self.now.bytes + bytes < 2 ^ 64 }
         ensures { IfOk result (λ m. IsGrown self.now entries.now bytes m) }
     {
         let alloc = *self.chunks.allocator();
-        let mut chunks = self.pin()?;
-        chunks.push(Arc::new(alloc, Chunk::new(alloc, entries)?)?)?;
+        let newest = Chunk::new(alloc, entries)?;
+        let chunks = piled(alloc, share(alloc, &self.chunks)?, newest)?;
         Ok(Memtable {
             chunks,
             bytes: self.bytes + bytes,
@@ -80,7 +86,7 @@ impl Memtable {
     ///
     /// `NoMemory` where the list finds no memory.
     pub fn pin(&self) -> Result<Vec<Arc<Chunk>>, NoMemory>
-        ensures { IfOk result (λ v. map arc_value v.items ≡ self.now.chunks) }
+        ensures { IfOk result (λ v. AreChunksOf self.now.entries (map arc_value v.items)) }
     {
         share(*self.chunks.allocator(), &self.chunks)
     }

@@ -6,9 +6,9 @@ ghost use Rattle.rk_model.specs.SourceLaws.{sound_spans-sorted, in_memory-bounde
 ghost use Rattle.rk_fragment.specs.Fragments.{fragments};
 
 use crate::Chunk;
-use rk_fragment::fragment;
+use crate::fragments::Fragments;
 use rk_key::UserKey;
-use rk_model::{ListSpans, Span, SpanList, SpanSource};
+use rk_model::{Span, SpanList, SpanSource, before_cut, behind_cut, span_ge, span_lt};
 use rk_outside::{Counting, NoMemory, SourceError};
 use std::alloc::Global;
 use std::marker::Model;
@@ -17,20 +17,25 @@ use std::sync::Arc;
 /// A source of the spans that the range entries of a chunk are cut into. It reads nothing.
 #[derive(Debug, Drop)]
 pub struct ChunkSpans {
-    list: ListSpans,
+    fragments: Arc<Fragments>,
+    place: Option<usize>,
 }
 
 impl Model for ChunkSpans {
-    ghost use Rattle.rk_model.specs.Sources.{Placed};
+    ghost use Rattle.std.specs.Arc.{arc_value};
+    ghost use Rattle.rk_model.specs.Sources.{Placed, IsAmongThem};
     ghost use Rattle.rk_model.specs.declared.span.Span.{Span};
 
     ghost Value = { Placed Span };
 
-    ghost view = { λ s. s.list };
+    ghost view = { λ s. record { items = arc_value s.fragments; place = s.place } };
+
+    ghost invariant = { λ s. IsAmongThem (record { items = arc_value s.fragments; place = s.place }) };
 }
 
 impl ChunkSpans {
-    /// A source of the spans of this chunk, at no place. It makes them anew.
+    /// A source of the spans of this chunk, at no place. Where no other source over the chunk has made them, it
+    /// makes them, and the chunk keeps them.
     ///
     /// # Errors
     ///
@@ -39,9 +44,10 @@ impl ChunkSpans {
         ensures value { IfOk result (λ s. s ≡ record { items = fragments (arc_value chunk); place = None }) }
         ensures told { IfOk result (λ s. sound_spans s.items ≡ Some (fragments (arc_value chunk))) }
     {
-        let spans = fragment(alloc, chunk.ranges())?;
+        let fragments = chunk.fragments(alloc)?;
         Ok(ChunkSpans {
-            list: ListSpans::new(spans),
+            fragments,
+            place: None,
         })
     }
 }
@@ -55,23 +61,28 @@ impl<R: Counting> SpanSource<R> for ChunkSpans {
 
     ghost bounded = { λ s. in_memory-bounded (length s.items) (sound_spans s.items) s.place };
 
-    fn seek_ge(&mut self, reader: &mut R, key: &UserKey) -> Result<(), SourceError> {
-        self.list.seek_ge(reader, key)
+    fn seek_ge(&mut self, _: &mut R, key: &UserKey) -> Result<(), SourceError> {
+        self.place = span_ge(&self.fragments.spans, key);
+        Ok(())
     }
 
-    fn seek_lt(&mut self, reader: &mut R, key: &UserKey) -> Result<(), SourceError> {
-        self.list.seek_lt(reader, key)
+    fn seek_lt(&mut self, _: &mut R, key: &UserKey) -> Result<(), SourceError> {
+        self.place = span_lt(&self.fragments.spans, key);
+        Ok(())
     }
 
-    fn next(&mut self, reader: &mut R) -> Result<(), SourceError> {
-        self.list.next(reader)
+    fn next(&mut self, _: &mut R) -> Result<(), SourceError> {
+        let len = self.fragments.spans.len();
+        self.place = self.place.and_then(|place| behind_cut(place + 1, len));
+        Ok(())
     }
 
-    fn prev(&mut self, reader: &mut R) -> Result<(), SourceError> {
-        self.list.prev(reader)
+    fn prev(&mut self, _: &mut R) -> Result<(), SourceError> {
+        self.place = self.place.and_then(|place| before_cut(place));
+        Ok(())
     }
 
     fn here(&self) -> Option<&Span> {
-        SpanSource::<R>::here(&self.list)
+        self.place.and_then(|place| self.fragments.spans.get(place))
     }
 }

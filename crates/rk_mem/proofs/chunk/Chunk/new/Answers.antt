@@ -1,7 +1,9 @@
+use Rattle.std.proofs.Common.{◌≡◌, ◌++◌, subst, sym}
 use Rattle.std.specs.List.Sorted.{IsPermutation}
+use Rattle.std.proofs.lemmas.Result.{IfOk-weaker}
 use Rattle.rk_model.proofs.Numbers.{some_differ}
 use Rattle.rk_model.specs.Covers.{is_point}
-use Rattle.rk_mem.specs.Chunks.{points_of}
+use Rattle.rk_mem.specs.Chunks.{points_of, IsChunkOf}
 use Rattle.rk_mem.proofs.Numbers.{rising_differ}
 use Rattle.rk_mem.proofs.Split.{filter_again, sorted_out, chunk_is}
 use Rattle.rk_mem.proofs.chunk.Chunk.new.Goals as goal
@@ -16,13 +18,15 @@ sort-requires-clause-points c =
     let es = c.args.entries.now in
     rw c.in_ok-points.ensures (filter_again (λ e. is_point e.op) es)
 
-pub invariant_of-result : goal.invariant_of-result
-invariant_of-result c =
+pub of-requires : goal.of-requires
+of-requires c =
     rw c.in_ok-ranges.ensures (sorted_out c.args.entries.now c.sort.new.points.items c.requires c.in_ok-sort.ensures.in_order)
 
 pub returns : goal.returns
 returns c =
     let es = c.args.entries.now in
     let points = c.sort.new.points.items in
+    let ranges = c.in_ok-ranges.ranges.items in
     let same : IsPermutation (points_of es) points = rw c.in_ok-points.ensures at c.sort.ensures.same in
-    rw c.in_ok-ranges.ensures (chunk_is es points same c.in_ok-sort.ensures.in_order)
+    let is : IsChunkOf es (points ++ ranges) = rw c.in_ok-ranges.ensures (chunk_is es points same c.in_ok-sort.ensures.in_order) in
+    IfOk-weaker c.of.result (λ chunk. chunk ≡ points ++ ranges) (λ chunk. IsChunkOf es chunk) (λ chunk e. subst (IsChunkOf es) (sym e) is) c.of.ensures

@@ -1,0 +1,71 @@
+// Two lists of entries as one.
+ghost use Rattle.std.specs.Prelude.{◌≡◌, ◌≤◌, ◌++◌, length, IfOk, OnOk, IsTrue};
+ghost use Rattle.std.specs.Ordering.{is_lt};
+ghost use Rattle.std.specs.List.Sorted.{IsPermutation};
+ghost use Rattle.rk_model.specs.Sources.{are_points, count_before, entry_cmp};
+ghost use Rattle.rk_mem.specs.Chunks.{AreNewer};
+
+use rk_model::{Entry, compare_entries};
+use rk_outside::NoMemory;
+use std::alloc::Global;
+
+/// Puts copies of entries behind the others.
+fn push_all(all: &mut Vec<Entry>, entries: &[Entry]) -> Result<(), NoMemory>
+    ensures { OnOk result (all.new.items ≡ all.old.items ++ entries.now) }
+{
+    for entry in entries {
+        all.push(entry.copy()?)?;
+    }
+    Ok(())
+}
+
+/// How many of the points stand before an entry.
+fn count_before(points: &[Entry], entry: &Entry) -> usize
+    ensures count { result ≡ count_before (λ point. is_lt (entry_cmp point entry.now)) points.now }
+    ensures within { result ≤ length points.now }
+{
+    for (i, point) in points.iter().enumerate() {
+        if !compare_entries(point, entry).is_lt() {
+            return i;
+        }
+    }
+    points.len()
+}
+
+/// Copies of older points and of newer ones, in order.
+pub(crate) fn merged(
+    alloc: Global,
+    older: &[Entry],
+    newer: &[Entry],
+) -> Result<Vec<Entry>, NoMemory>
+    requires older { IsTrue (are_points older.now) }
+    requires newer { IsTrue (are_points newer.now) }
+    requires apart { AreNewer older.now newer.now }
+    ensures same { IfOk result (λ points. IsPermutation (older.now ++ newer.now) points.items) }
+    ensures in_order { IfOk result (λ points. IsTrue (are_points points.items)) }
+{
+    let mut points = Vec::with_capacity(alloc, older.len() + newer.len())?;
+    let mut rest = newer;
+    for entry in older {
+        let (before, behind) = rest.split_at(count_before(rest, entry));
+        push_all(&mut points, before)?;
+        points.push(entry.copy()?)?;
+        rest = behind;
+    }
+    push_all(&mut points, rest)?;
+    Ok(points)
+}
+
+/// Copies of entries, and of newer ones behind them.
+pub(crate) fn joined(
+    alloc: Global,
+    older: &[Entry],
+    newer: &[Entry],
+) -> Result<Vec<Entry>, NoMemory>
+    ensures { IfOk result (λ entries. entries.items ≡ older.now ++ newer.now) }
+{
+    let mut entries = Vec::with_capacity(alloc, older.len() + newer.len())?;
+    push_all(&mut entries, older)?;
+    push_all(&mut entries, newer)?;
+    Ok(entries)
+}
