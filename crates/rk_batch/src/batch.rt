@@ -14,6 +14,7 @@ use rk_model::Op;
 use rk_outside::{NoMemory, What};
 use std::alloc::Global;
 use std::marker::Model;
+use std::mem;
 
 /// The most operations of a batch.
 pub(crate) const MAX_OPS: u16 = 1_000;
@@ -163,6 +164,16 @@ impl Batch {
     {
         self.ops.clear();
         self.size = HEAD_BYTES;
+    }
+
+    /// Takes the operations out, and leaves the empty batch. It takes no memory, and copies no operation.
+    pub fn take_ops(&mut self) -> Vec<Op>
+        ensures ops { result.items ≡ self.old }
+        ensures empty { self.new ≡ [] }
+    {
+        let none = Vec::new(self.alloc());
+        self.size = HEAD_BYTES;
+        mem::replace(&mut self.ops, none)
     }
 
     /// Lends the operations. It takes no memory.

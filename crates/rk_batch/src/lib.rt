@@ -26,6 +26,3 @@ mod writing;
 pub use batch::Batch;
 pub use error::BatchError;
 pub use laws::{one_place, one_refusal, one_spelling};
-
-#[cfg(test)]
-mod tests;

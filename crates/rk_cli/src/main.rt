@@ -8,29 +8,47 @@
 ghost use Rattle.std.specs.Prelude.{◌≡◌, ◌↔◌, ◌⊎◌, IfOk, IfErr, IsErr, IsErrOf, drop};
 ghost use Rattle.std.specs.Vec.Iter.{into_iter_items};
 ghost use Rattle.std.specs.Process.{exit_status};
-ghost use Rattle.rk_program.specs.Ends.{status_of};
+ghost use Rattle.rk_program.specs.Causes.{status_of};
 
-use rk_outside::{ReadSource, WriteSink};
-use rk_program::{Cause, run};
+use rk_outside::{ReadSource, Sink, Source, WriteSink};
+use rk_program::{Cause, Ended, run};
 use std::alloc::{AllocError, Global};
 use std::env::{self, Args};
 use std::io;
 use std::process::ExitCode;
 
 fn main(rt: HostRuntime) -> ExitCode {
-    let cause = match words(env::args(&rt), rt.alloc()) {
-        Ok(words) => {
-            let mut source = ReadSource::new(rt.stdin());
-            let mut sink = WriteSink::new(rt.stdout());
-            run(rt.alloc(), &words, &mut source, &mut sink, ()).cause
-        }
-        Err(cause) => cause,
-    };
-    if cause != Cause::Done {
+    let alloc = rt.alloc();
+    let mut source = ReadSource::new(rt.stdin());
+    let mut sink = WriteSink::new(rt.stdout());
+    let words = words(env::args(&rt), alloc);
+    let ended = run_words(alloc, words, &mut source, &mut sink);
+    if ended.cause != Cause::Done {
         // Where the line can't be written, the status still tells of the end.
+        let cause = ended.cause;
         let _ = eprintln!(rt; "rkrange: {cause}");
     }
-    exit_code(&cause)
+    exit_code(&ended)
+}
+
+// Runs the program, or ends for the cause for which the words can't be had.
+fn run_words<S: Source, K: Sink>(
+    alloc: Global,
+    words: Result<Vec<String>, Cause>,
+    source: &mut S,
+    sink: &mut K,
+) -> Ended<()>
+    ensures status { result.status ≡ status_of result.cause }
+    ensures no_words { IfErr words (λ cause. (result.cause ≡ cause) × (source.new ≡ source.old) × (sink.new ≡ sink.old)) }
+{
+    match words {
+        Ok(words) => run(alloc, &words, source, sink, ()),
+        Err(cause) => Ended {
+            status: cause.status(),
+            cause,
+            vault: (),
+        },
+    }
 }
 
 // The words after the program's name. Where they can't be had, as where one is no text, they are none that
@@ -57,8 +75,8 @@ fn behind_name(args: Args, alloc: Global) -> Result<Vec<String>, AllocError>
 }
 
 // What the process ends with after a run that ended so.
-fn exit_code(cause: &Cause) -> ExitCode
-    ensures { exit_status result ≡ status_of cause.now }
+fn exit_code(ended: &Ended<()>) -> ExitCode
+    ensures { exit_status result ≡ ended.now.status }
 {
-    ExitCode::from(cause.status())
+    ExitCode::from(ended.status)
 }

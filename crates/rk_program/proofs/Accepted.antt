@@ -1,14 +1,13 @@
 -- What the acceptance of a line says of the session that does it.
 use Rattle.std.proofs.Common.{◌≡◌, ℕ, Bool, true, false, List, [], ◌∷◌, map, Option, Some, None, ap, sym, ◌∙◌, refl, subst}
-use Rattle.std.specs.Option.{option_map}
 use Rattle.std.specs.Prelude.{IsTrue, IsSome, IfSome, not, ◌&&◌}
 use Rattle.rk_model.specs.Named.{named}
 use Rattle.rk_script.specs.Naming.{is_called}
 use Rattle.rk_script.specs.Script.{Names, is_accepted}
 use Rattle.rk_script.specs.declared.line.Event.{Event}
-use Rattle.rk_script.specs.declared.line.Event.TheVariants.{Release, Iter, First, Last, Next, Prev, SeekGe, SeekLt, Close}
+use Rattle.rk_script.specs.declared.line.Event.TheVariants.{Release, Iter}
 use Rattle.rk_program.specs.Standing.{StandsFor, IsFree, IsLive, numbers, opens, names_in}
-use Rattle.rk_program.specs.Transcript.{SessionState, move_of, names_of}
+use Rattle.rk_program.specs.Transcript.{SessionState, names_of}
 use Rattle.rk_program.specs.declared.session.Session.{Session}
 use Rattle.rk_program.proofs.LineLemmas.{snapshot_name, snapshot_number, iterator_name, iterator_open}
 use Rattle.rk_program.proofs.NameLemmas.{same_names}
@@ -48,9 +47,6 @@ live_iterator session name there = named-there iterator_name iterator_open name 
 pub release_live : (session : Session) (name : List ℕ) → IsTrue (is_accepted (names_in session) (Release name)) → IsLive name (numbers session.snapshots.items)
 release_live session name accepted = live_snapshot session name (all_three _ _ _ accepted).0
 
-pub close_live : (session : Session) (name : List ℕ) → IsTrue (is_accepted (names_in session) (Close name)) → IsLive name (opens session.iterators.items)
-close_live session name accepted = live_iterator session name (all_three _ _ _ accepted).0
-
 pub iter_free : (session : Session) (name : List ℕ) (at : Option (List ℕ)) (lower upper mask : Option (List ℕ))
     → IsTrue (is_accepted (names_in session) (Iter name at lower upper mask)) → IsFree name (opens session.iterators.items)
 iter_free session name at lower upper mask accepted =
@@ -61,15 +57,10 @@ pub iter_live : (session : Session) (name : List ℕ) (at : Option (List ℕ)) (
 iter_live session name None lower upper mask accepted = tt
 iter_live session name (Some at) lower upper mask accepted = live_snapshot session at (all_three _ _ _ accepted).0
 
-pub move_live : (session : Session) (event : Event) (iter : List ℕ) → option_map (λ m. m.0) (move_of event) ≡ Some iter
-    → IsTrue (is_accepted (names_in session) event) → IsLive iter (opens session.iterators.items)
-move_live session (First i) iter is accepted = let same : i ≡ iter = cc in rw (← same) (live_iterator session i (all_three _ _ _ accepted).0)
-move_live session (Last i) iter is accepted = let same : i ≡ iter = cc in rw (← same) (live_iterator session i (all_three _ _ _ accepted).0)
-move_live session (Next i) iter is accepted = let same : i ≡ iter = cc in rw (← same) (live_iterator session i (all_three _ _ _ accepted).0)
-move_live session (Prev i) iter is accepted = let same : i ≡ iter = cc in rw (← same) (live_iterator session i (all_three _ _ _ accepted).0)
-move_live session (SeekGe i key) iter is accepted = let same : i ≡ iter = cc in rw (← same) (live_iterator session i (all_three _ _ _ accepted).0)
-move_live session (SeekLt i key) iter is accepted = let same : i ≡ iter = cc in rw (← same) (live_iterator session i (all_three _ _ _ accepted).0)
-move_live session other iter is accepted = cc
+-- the iterator that a line moves or closes is live
+pub iterator_live : (session : Session) (iter : List ℕ) (free room : Bool) → IsTrue (is_called iter (names_in session).iterators && free && room)
+    → IsLive iter (opens session.iterators.items)
+iterator_live session iter free room accepted = live_iterator session iter (all_three _ free room accepted).0
 
 not_there : {A : Type 0} (found : Option A) → IsSome found → found ≡ None → ⊥
 not_there None live is = cc

@@ -1,9 +1,8 @@
 -- Lines on batches, and commits: what they do to a session, and to the state that it stands for.
-use Rattle.std.proofs.Common.{◌≡◌, ℕ, ◌+◌, ◌≤◌, false, List, [], ◌∷◌, ◌++◌, map, length, set, get_or, Option, Some, None, arith, ap, sym, ◌∙◌, refl, subst, length-append, inl, inr, ⊎_elim}
+use Rattle.std.proofs.Common.{◌≡◌, ℕ, ◌+◌, ◌≤◌, false, List, [], ◌∷◌, ◌++◌, map, length, set, get_or, arith, ap, sym, ◌∙◌, refl, subst, length-append, inl, inr, ⊎_elim}
 use Rattle.std.proofs.Math.Nat.{le_trans}
 use Rattle.std.proofs.Math.Seq.{get_or-append_seam, set-append_seam}
-use Rattle.std.specs.Option.{option_map}
-use Rattle.std.specs.Prelude.{◌≢◌, unwrap_or, IfSome, Ok, Err}
+use Rattle.std.specs.Prelude.{◌≢◌, unwrap_or, Ok, Err}
 use Rattle.rk_model.specs.Named.{named, with_named}
 use Rattle.rk_model.specs.Operations.{entries, last, numbered}
 use Rattle.rk_model.specs.declared.op.Entry.{Entry}
@@ -14,11 +13,9 @@ use Rattle.rk_batch.specs.declared.error.BatchError.{BatchError}
 use Rattle.rk_batch.specs.declared.error.BatchError.TheVariants.{Memory}
 use Rattle.rk_machine.specs.Machine.{State, Commit as commits, Committed, EmptyBatch, Step}
 use Rattle.rk_script.specs.Naming.{is_called}
-use Rattle.rk_script.specs.declared.line.Event.{Event}
-use Rattle.rk_script.specs.declared.line.Event.TheVariants.{Put, Del, RangeSet, RangeUnset, RangeDel}
 use Rattle.rk_program.specs.Replies.{reply_text, refused_text}
 use Rattle.rk_program.specs.Standing.{StandsFor, IsPlaceOf, IsGiven, batches, numbers, opens}
-use Rattle.rk_program.specs.Transcript.{SessionState, with_batch, batch_of, op_of, move_of, Does, DoesOther, DoesCommit}
+use Rattle.rk_program.specs.Transcript.{SessionState, with_batch, batch_of, DoesOp, DoesCommit}
 use Rattle.rk_program.specs.declared.session.Session.{Session}
 use Rattle.rk_program.specs.declared.session.Writer.{Writer}
 use Rattle.rk_program.proofs.NameLemmas.{map-snoc}
@@ -56,20 +53,7 @@ pub IsPlaceOf-new : (ws new : List Writer) (name : List ℕ) (w : Writer) (i : �
     → w.name ≡ name → w.batch ≡ [] → new ≡ ws ++ w ∷ [] → i ≡ length ws → IsPlaceOf ws new name i
 IsPlaceOf-new ws new name w i absent called empty more is = rw (more, is) (at_end ws name w absent called empty)
 
--- A line that gives an operation to a batch.
-
-pub op_there : (found : Option (List ℕ × Op)) (w : List ℕ) → option_map (λ o. o.0) found ≡ Some w → (o : Op) × (found ≡ Some (w, o))
-op_there None w h = cc
-op_there (Some o) w h = let same : o.0 ≡ w = cc in (o.1, ap (λ n. Some (n, o.1)) same)
-
-pub op_does : (s : SessionState) (event : Event) (o : List ℕ × Op) (text : List ℕ) (t : SessionState) → op_of event ≡ Some o
-    → DoesOther s (op_of event) (move_of event) text t → Does s event text t
-op_does s (Put writer key value) o text t h d = d
-op_does s (Del writer key) o text t h d = d
-op_does s (RangeSet writer start end suffix value) o text t h d = d
-op_does s (RangeUnset writer start end suffix) o text t h d = d
-op_does s (RangeDel writer start end) o text t h d = d
-op_does s other o text t h d = cc
+-- An operation that is given to a batch.
 
 pub stands_with_batch : (old new : Session) (w : List ℕ) (ops : List Op) (s : SessionState) → StandsFor old s
     → new.entries.items ≡ old.entries.items → new.snapshots.items ≡ old.snapshots.items → new.iterators.items ≡ old.iterators.items
@@ -84,51 +68,39 @@ stands_with_batch old new w ops s stands same_entries same_snapshots same_iterat
   within = rw (same_entries, same_snapshots) stands.within;
 }
 
-pub added_does : {T : Type 0} (u : T) (old new : Session) (event : Event) (w : List ℕ) (mid : List Writer) (i : ℕ) (x y : Writer) (text : List ℕ) (s : SessionState)
-    → StandsFor old s → option_map (λ o. o.0) (op_of event) ≡ Some w
-    → IsPlaceOf old.writers.items mid w i → x ≡ get_or mid i x → y.name ≡ x.name
-    → IfSome (op_of event) (λ o. IsGiven {T = T} x.batch y.batch o.1 (Ok u))
+pub added_does : {T : Type 0} (u : T) (old new : Session) (w : List ℕ) (o : Op) (mid : List Writer) (i : ℕ) (x y : Writer) (text : List ℕ) (s : SessionState)
+    → StandsFor old s → IsPlaceOf old.writers.items mid w i → x ≡ get_or mid i x → y.name ≡ x.name
+    → IsGiven {T = T} x.batch y.batch o (Ok u)
     → new.entries.items ≡ old.entries.items → new.snapshots.items ≡ old.snapshots.items → new.iterators.items ≡ old.iterators.items
     → new.writers.items ≡ set mid i y → text ≡ []
-    → (t : SessionState) × Does s event text t × StandsFor new t
-added_does {T = T} u old new event w mid i x y text s stands asked place is same_name gave same_entries same_snapshots same_iterators put said =
-    let o = op_there (op_of event) w asked in
-    let Q : Option (List ℕ × Op) → Type 0 = λ found. IfSome found (λ p. IsGiven {T = T} x.batch y.batch p.1 (Ok u)) in
-    let given = subst Q o.1 gave in
+    → (t : SessionState) × DoesOp s w o text t × StandsFor new t
+added_does {T = T} u old new w o mid i x y text s stands place is same_name given same_entries same_snapshots same_iterators put said =
     let is_batch : x.batch ≡ batch_of w s = ap writer_batch is ∙ (place.batch x ∙ ap (λ bs. unwrap_or (named w bs) []) stands.batches_are) in
     let called : y.name ≡ w = same_name ∙ (ap writer_name is ∙ place.called x) in
-    let P : List Op → Type 0 = λ ops. AllPass (checks ops o.0) in
-    let passes : AllPass (checks (batch_of w s) o.0) = subst P is_batch given.passes in
-    let t : SessionState = with_batch w (batch_of w s ++ o.0 ∷ []) s in
-    let R : Option (List ℕ × Op) → Type 0 = λ found. DoesOther s found (move_of event) text t in (
-      t,
-      op_does s event (w, o.0) text t o.1 (subst R (sym o.1) (inl (passes, said, refl))),
-      stands_with_batch old new w (batch_of w s ++ o.0 ∷ []) s stands same_entries same_snapshots same_iterators
-          (ap batches put ∙ (place.put y called ∙ ap (λ b. with_named w b (batches old.writers.items)) (given.added ∙ ap (λ b. b ++ o.0 ∷ []) is_batch))),
+    let P : List Op → Type 0 = λ ops. AllPass (checks ops o) in
+    let passes : AllPass (checks (batch_of w s) o) = subst P is_batch given.passes in (
+      with_batch w (batch_of w s ++ o ∷ []) s,
+      inl (passes, said, refl),
+      stands_with_batch old new w (batch_of w s ++ o ∷ []) s stands same_entries same_snapshots same_iterators
+          (ap batches put ∙ (place.put y called ∙ ap (λ b. with_named w b (batches old.writers.items)) (given.added ∙ ap (λ b. b ++ o ∷ []) is_batch))),
     )
 
 the_first : (ops : List Check) (e : BatchError) → IsRefusal ops e → e ≢ Memory → IsFirstOf ops e
 the_first ops e refusal other = ⊎_elim (λ (h : e ≡ Memory). absurd (other h)) (λ (h : IsFirstOf ops e). h) refusal
 
-pub refused_op_does : (T : Type 0) (old new : Session) (event : Event) (w : List ℕ) (mid : List Writer) (i : ℕ) (x y : Writer) (e : BatchError) (name text : List ℕ) (s : SessionState)
-    → StandsFor old s → option_map (λ o. o.0) (op_of event) ≡ Some w
-    → IsPlaceOf old.writers.items mid w i → x ≡ get_or mid i x → y.name ≡ x.name
-    → IfSome (op_of event) (λ o. IsGiven {T = T} x.batch y.batch o.1 (Err e))
+pub refused_op_does : (T : Type 0) (old new : Session) (w : List ℕ) (o : Op) (mid : List Writer) (i : ℕ) (x y : Writer) (e : BatchError) (name text : List ℕ) (s : SessionState)
+    → StandsFor old s → IsPlaceOf old.writers.items mid w i → x ≡ get_or mid i x → y.name ≡ x.name
+    → IsGiven {T = T} x.batch y.batch o (Err e)
     → new.entries.items ≡ old.entries.items → new.snapshots.items ≡ old.snapshots.items → new.iterators.items ≡ old.iterators.items
     → new.writers.items ≡ set mid i y → e ≢ Memory → name ≡ w → text ≡ refused_text name e
-    → (t : SessionState) × Does s event text t × StandsFor new t
-refused_op_does T old new event w mid i x y e name text s stands asked place is same_name gave same_entries same_snapshots same_iterators put other named_so said =
-    let o = op_there (op_of event) w asked in
-    let Q : Option (List ℕ × Op) → Type 0 = λ found. IfSome found (λ p. IsGiven {T = T} x.batch y.batch p.1 (Err e)) in
-    let given = subst Q o.1 gave in
+    → (t : SessionState) × DoesOp s w o text t × StandsFor new t
+refused_op_does T old new w o mid i x y e name text s stands place is same_name given same_entries same_snapshots same_iterators put other named_so said =
     let is_batch : x.batch ≡ batch_of w s = ap writer_batch is ∙ (place.batch x ∙ ap (λ bs. unwrap_or (named w bs) []) stands.batches_are) in
     let called : y.name ≡ w = same_name ∙ (ap writer_name is ∙ place.called x) in
-    let P : List Op → Type 0 = λ ops. IsFirstOf (checks ops o.0) e in
-    let first : IsFirstOf (checks (batch_of w s) o.0) e = subst P is_batch (the_first (checks x.batch o.0) e given.refusal other) in
-    let t : SessionState = with_batch w (batch_of w s) s in
-    let R : Option (List ℕ × Op) → Type 0 = λ found. DoesOther s found (move_of event) text t in (
-      t,
-      op_does s event (w, o.0) text t o.1 (subst R (sym o.1) (inr (e, first, said ∙ ap (λ n. refused_text n e) named_so, refl))),
+    let P : List Op → Type 0 = λ ops. IsFirstOf (checks ops o) e in
+    let first : IsFirstOf (checks (batch_of w s) o) e = subst P is_batch (the_first (checks x.batch o) e given.refusal other) in (
+      with_batch w (batch_of w s) s,
+      inr (e, first, said ∙ ap (λ n. refused_text n e) named_so, refl),
       stands_with_batch old new w (batch_of w s) s stands same_entries same_snapshots same_iterators
           (ap batches put ∙ (place.put y called ∙ ap (λ b. with_named w b (batches old.writers.items)) (given.same ∙ is_batch))),
     )

@@ -4,16 +4,19 @@ use Rattle.std.specs.Io.KnownBytes.{Consumes}
 use Rattle.std.proofs.KnownBytes.{Consumes-trans}
 use Rattle.std.proofs.lemmas.List.{length-append}
 use Rattle.rk_outside.specs.Causes.{Rose}
-use Rattle.rk_program.specs.Input.{IsFailure, TookAtMost}
-use Rattle.rk_program.specs.declared.failure.Failure.{Failure}
-use Rattle.rk_program.specs.declared.failure.Failure.TheVariants.{Memory, Fault}
+use Rattle.rk_program.specs.Ends.{IsNoFile}
+use Rattle.rk_program.specs.Input.{IsSourceRefusal, TookAtMost}
+use Rattle.rk_program.specs.declared.cause.Cause.{Cause}
+use Rattle.rk_program.specs.declared.cause.Cause.TheVariants.{SourceFault, Memory}
 
 Rose-earlier : (first between now : ℕ) → first ≤ between → Rose between now → Rose first now
 Rose-earlier first between now later rose = omega arith
 
-pub IsFailure-whole : (first between now : ℕ) (failure : Failure) → between ≡ first → IsFailure between now failure → IsFailure first now failure
-IsFailure-whole first between now Memory same h = h ∙ same
-IsFailure-whole first between now (Fault faults) same h = (Rose-earlier first between now (omega (arith, same)) h.0, h.1)
+-- a piece of a source that was not read
+pub IsNoFile-piece : (lb ln : Option (List ℕ)) (first between now : ℕ) (cause : Cause) → between ≡ first → IsSourceRefusal between now cause → IsNoFile lb ln first now cause
+IsNoFile-piece lb ln first between now (SourceFault faults) same h = (Rose-earlier first between now (omega (arith, same)) h.0, h.1)
+IsNoFile-piece lb ln first between now Memory same h = h ∙ same
+IsNoFile-piece lb ln first between now other same h = absurd h
 
 -- a first part of the source's bytes was taken, and then some more
 pub took_more : (a b c : Option (List ℕ)) (file : List ℕ) (m most : ℕ) → length file + m ≤ most → Consumes a b file → TookAtMost b c m → TookAtMost a c most

@@ -14,7 +14,8 @@ use Rattle.rk_script.specs.declared.line.Line.{Line as ScriptLine}
 use Rattle.rk_script.specs.declared.line.Why.{Why}
 use Rattle.rk_script.specs.declared.line.Why.TheVariants.{Byte, NoName, Taken, TooMany}
 use Rattle.rk_program.specs.Transcript.{AreAccepted}
-use Rattle.rk_program.specs.Ends.{are_words, GaveLines}
+use Rattle.rk_program.specs.Causes.{are_words}
+use Rattle.rk_program.specs.Ends.{GaveLines}
 
 -- Lines that were read are accepted one after the other.
 

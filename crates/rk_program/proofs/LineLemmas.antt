@@ -2,7 +2,7 @@
 use Rattle.std.proofs.Common.{◌≡◌, ℕ, ◌≤◌, ◌<◌, List, [], ◌∷◌, ◌++◌, map, length, take, drop, suc, set, get_or, Option, Some, None, arith, ap, sym, ◌∙◌, refl, get_or-set_same}
 use Rattle.std.proofs.lemmas.List.Elements.{All-append, All-cons, All-nil, All-take, All-drop}
 use Rattle.std.specs.List.{remove}
-use Rattle.std.specs.Option.{option_map, option_map_or}
+use Rattle.std.specs.Option.{option_map_or}
 use Rattle.std.specs.Prelude.{IfSome, All, Contains}
 use Rattle.rk_model.specs.Covers.{upto}
 use Rattle.rk_model.specs.Moves.{Move, opened_over, after_move}
@@ -10,11 +10,10 @@ use Rattle.rk_model.specs.Named.{named, with_named}
 use Rattle.rk_model.specs.Operations.{entries, last}
 use Rattle.rk_model.specs.declared.options.IterOptions.{IterOptions}
 use Rattle.rk_machine.specs.Machine.{Open, opened, Number, Released, Opened, Stands, Closed, moved_on, without_named}
-use Rattle.rk_script.specs.declared.line.Event.{Event}
-use Rattle.rk_script.specs.declared.line.Event.TheVariants.{Snap, Release, First, Last, Next, Prev, SeekGe, SeekLt, Close}
+use Rattle.rk_script.specs.declared.line.Event.TheVariants.{Snap, Release, Close}
 use Rattle.rk_program.specs.Replies.{reply_text, stands_text}
 use Rattle.rk_program.specs.Standing.{StandsFor, IsFree, batches, numbers, opens}
-use Rattle.rk_program.specs.Transcript.{SessionState, move_of, IsTime, Does, DoesOther, DoesOpening}
+use Rattle.rk_program.specs.Transcript.{SessionState, IsTime, Does, DoesMove, DoesOpening}
 use Rattle.rk_program.specs.declared.session.OpenIterator.{OpenIterator}
 use Rattle.rk_program.specs.declared.session.Session.{Session}
 use Rattle.rk_program.specs.declared.session.Snapshot.{Snapshot}
@@ -102,6 +101,13 @@ time_there session s (Some name) number stands now snapshot =
     let there : Contains s.state.live number = rw stands.live_are (named-Contains name number s.snapshots found) in
     (Some number, (found, refl), there, refl)
 
+one_more_open : (its : List OpenIterator) (are : List (List ℕ × Open)) (it : OpenIterator) (name : List ℕ) (open_it : Open)
+    → opens its ≡ are → it.name ≡ name → iterator_open it ≡ open_it → opens (its ++ it ∷ []) ≡ are ++ (name, open_it) ∷ []
+one_more_open its are it name open_it same called is =
+    map-snoc (λ i. (iterator_name i, iterator_open i)) its it
+    ∙ (ap (λ xs. xs ++ (it.name, iterator_open it) ∷ []) same
+    ∙ (ap (λ n. are ++ (n, iterator_open it) ∷ []) called ∙ ap (λ o. are ++ (name, o) ∷ []) is))
+
 pub open_does : (old new : Session) (name : List ℕ) (at : Option (List ℕ)) (options : IterOptions) (it : OpenIterator) (text : List ℕ) (s : SessionState)
     → StandsFor old s → IsFree name (opens old.iterators.items)
     → (at ≡ None → it.number ≡ length old.entries.items)
@@ -137,51 +143,31 @@ open_does old new name at options it text s stands free now snapshot same_entrie
         batches_are = ap batches same_writers ∙ stands.batches_are;
         snapshots_are = ap numbers same_snapshots ∙ stands.snapshots_are;
         live_are = stands.live_are;
-        iterators_are = ap opens more ∙ (map-snoc (λ i. (iterator_name i, iterator_open i)) old.iterators.items it
-            ∙ (ap (λ is. is ++ (it.name, iterator_open it) ∷ []) stands.iterators_are
-            ∙ (ap (λ n. s.state.iterators ++ (n, iterator_open it) ∷ []) called ∙ ap (λ o. s.state.iterators ++ (name, o) ∷ []) is)));
+        iterators_are = ap opens more ∙ one_more_open old.iterators.items s.state.iterators it name (opened s.state time.0 options) stands.iterators_are called is;
         within = rw (same_entries, same_snapshots) stands.within;
       },
     )
 
 -- Moves and closings.
 
-pub move_there : (found : Option (List ℕ × Move)) (iter : List ℕ) → option_map (λ m. m.0) found ≡ Some iter → (move : Move) × (found ≡ Some (iter, move))
-move_there None iter h = cc
-move_there (Some m) iter h = let same : m.0 ≡ iter = cc in (m.1, ap (λ n. Some (n, m.1)) same)
-
-move_is : (s : SessionState) (event : Event) (m : List ℕ × Move) (text : List ℕ) (t : SessionState) → move_of event ≡ Some m
-    → DoesOther s None (move_of event) text t → Does s event text t
-move_is s (First iter) m text t h d = d
-move_is s (Last iter) m text t h d = d
-move_is s (Next iter) m text t h d = d
-move_is s (Prev iter) m text t h d = d
-move_is s (SeekGe iter key) m text t h d = d
-move_is s (SeekLt iter key) m text t h d = d
-move_is s other m text t h d = cc
-
-pub move_does : (old new : Session) (event : Event) (name : List ℕ) (i : ℕ) (it y : OpenIterator) (move : Move) (text : List ℕ) (s : SessionState)
-    → StandsFor old s → move_of event ≡ Some (name, move)
-    → IsFirst iterator_name old.iterators.items name i → it ≡ get_or old.iterators.items i it
+pub move_does : (old new : Session) (name : List ℕ) (i : ℕ) (it y : OpenIterator) (move : Move) (text : List ℕ) (s : SessionState)
+    → StandsFor old s → IsFirst iterator_name old.iterators.items name i → it ≡ get_or old.iterators.items i it
     → new.entries.items ≡ old.entries.items → new.writers.items ≡ old.writers.items → new.snapshots.items ≡ old.snapshots.items
     → new.iterators.items ≡ set old.iterators.items i y
     → y.name ≡ it.name → y.number ≡ it.number → y.plain ≡ after_move it.plain move
     → text ≡ stands_text name y.plain
-    → (t : SessionState) × Does s event text t × StandsFor new t
-move_does old new event name i it y move text s stands asked first is same_entries same_writers same_snapshots moved same_name same_number after said =
+    → (t : SessionState) × DoesMove s name move text t × StandsFor new t
+move_does old new name i it y move text s stands first is same_entries same_writers same_snapshots moved same_name same_number after said =
     let found : named name s.state.iterators ≡ Some (iterator_open it) =
     ap (named name) (sym stands.iterators_are)
     ∙ (IsFirst-named iterator_name iterator_open old.iterators.items name i it first ∙ ap (λ x. Some (iterator_open x)) (sym is)) in
-    let called : y.name ≡ name = same_name ∙ (ap iterator_name is ∙ first.here it) in
-    let t : SessionState = record {
-      state = record s.state { iterators = with_named name (moved_on (iterator_open it) move) s.state.iterators };
-      batches = s.batches;
-      snapshots = s.snapshots;
-    } in
-    let does : DoesOther s None (Some (name, move)) text t =
-    (Stands (moved_on (iterator_open it) move), (iterator_open it, found, refl, refl), said ∙ ap (stands_text name) after, refl, refl) in (
-      t,
-      move_is s event (name, move) text t asked (rw asked does),
+    let called : y.name ≡ name = same_name ∙ (ap iterator_name is ∙ first.here it) in (
+      record {
+        state = record s.state { iterators = with_named name (moved_on (iterator_open it) move) s.state.iterators };
+        batches = s.batches;
+        snapshots = s.snapshots;
+      },
+      (Stands (moved_on (iterator_open it) move), (iterator_open it, found, refl, refl), said ∙ ap (stands_text name) after, refl, refl),
       record {
         entries_are = same_entries ∙ stands.entries_are;
         batches_are = ap batches same_writers ∙ stands.batches_are;

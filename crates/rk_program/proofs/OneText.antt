@@ -3,9 +3,11 @@
 use Rattle.std.proofs.Common.{◌≡◌, ℕ, ◌+◌, List, [], ◌∷◌, ◌++◌, length, Option, Some, None, ap, sym, ◌∙◌, refl, subst, inl, inr}
 use Rattle.std.specs.Prelude.{unwrap_or}
 use Rattle.rk_model.specs.Moves.{Move}
+use Rattle.rk_model.specs.Moves as move
 use Rattle.rk_model.specs.Named.{named, with_named}
 use Rattle.rk_model.specs.Operations.{History, last}
 use Rattle.rk_model.specs.declared.op.Op.{Op}
+use Rattle.rk_model.specs.declared.op.Op.TheVariants as op
 use Rattle.rk_model.specs.declared.options.IterOptions.{IterOptions}
 use Rattle.rk_batch.specs.Checks.{Check, AllPass, IsFirst, checks}
 use Rattle.rk_batch.specs.declared.error.BatchError.{BatchError}
@@ -13,10 +15,10 @@ use Rattle.rk_batch.proofs.Firsts.{one_first}
 use Rattle.rk_batch.proofs.Refusing.{first_fails}
 use Rattle.rk_machine.specs.Machine.{State, Open, opened, moved_on, without_named, Event, Commit as commits, Snap as snaps, Release as releases, OpenAt, Moves, Close as closes, Reply, Step, Stands, Committed, Number, Opened}
 use Rattle.rk_script.specs.declared.line.Event.{Event as LineEvent}
-use Rattle.rk_script.specs.declared.line.Event.TheVariants.{Commit, Snap, Release, Iter, Close}
+use Rattle.rk_script.specs.declared.line.Event.TheVariants.{Put, Del, RangeSet, RangeUnset, RangeDel, Commit, Snap, Release, Iter, First, Last, Next, Prev, SeekGe, SeekLt, Close}
 use Rattle.rk_script.specs.declared.line.Line.{Line}
 use Rattle.rk_program.specs.Replies.{refused_text, reply_text}
-use Rattle.rk_program.specs.Transcript.{SessionState, begin, batch_of, with_batch, left_by, IsTime, Does, DoesOp, DoesEvent, DoesCommit, DoesOther, op_of, move_of, IsTranscript}
+use Rattle.rk_program.specs.Transcript.{SessionState, begin, batch_of, with_batch, left_by, IsTime, Does, DoesOp, DoesEvent, DoesCommit, DoesMove, IsTranscript}
 
 -- two states of the machine that may differ in their live numbers alone
 record Alike (m n : State) : Type 0 where
@@ -145,12 +147,10 @@ one_time : (s t : SessionState) (at : Option (List ℕ)) (x y : Option ℕ) → 
 one_time s t None x y same p d = p ∙ sym d
 one_time s t (Some name) x y same p d = sym p.0 ∙ (ap (named name) same ∙ d.0)
 
-DoesOther-alike : (s t : SessionState) (o : Option (List ℕ × Op)) (m : Option (List ℕ × Move)) (a b : List ℕ) (s' t' : SessionState)
-    → AreAlike s t → DoesOther s o m a s' → DoesOther t o m b t' → TellsAlike a b s' t'
-DoesOther-alike s t (Some o) m a b s' t' same p d = DoesOp-alike s t o.0 o.1 a b s' t' same p d
-DoesOther-alike s t None (Some m) a b s' t' same p d =
-    DoesEvent-alike s t m.0 (Moves m.0 m.1) _ _ _ _ _ a b s' t' same.states refl same.batches same.snapshots p d
-DoesOther-alike s t None None a b s' t' same p d = absurd p
+DoesMove-alike : (s t : SessionState) (iter : List ℕ) (step : Move) (a b : List ℕ) (s' t' : SessionState)
+    → AreAlike s t → DoesMove s iter step a s' → DoesMove t iter step b t' → TellsAlike a b s' t'
+DoesMove-alike s t iter step a b s' t' same p d =
+    DoesEvent-alike s t iter (Moves iter step) _ _ _ _ _ a b s' t' same.states refl same.batches same.snapshots p d
 
 Does-alike : (s t : SessionState) (event : LineEvent) (a b : List ℕ) (s' t' : SessionState) → AreAlike s t → Does s event a s' → Does t event b t' → TellsAlike a b s' t'
 Does-alike s t (Commit writer) a b s' t' same p d = DoesCommit-alike s t writer a b s' t' same p d
@@ -166,7 +166,17 @@ Does-alike s t (Iter name at lower upper mask) a b s' t' same p d =
     (ap (λ n. OpenAt name n (record { lower = lower; upper = upper; mask = mask })) number) same.batches same.snapshots p.2 d.2
 Does-alike s t (Close iter) a b s' t' same p d =
     DoesEvent-alike s t iter (closes iter) _ _ _ _ _ a b s' t' same.states refl same.batches same.snapshots p d
-Does-alike s t event a b s' t' same p d = DoesOther-alike s t (op_of event) (move_of event) a b s' t' same p d
+Does-alike s t (Put w k v) a b s' t' same p d = DoesOp-alike s t w (op.Put k v) a b s' t' same p d
+Does-alike s t (Del w k) a b s' t' same p d = DoesOp-alike s t w (op.Del k) a b s' t' same p d
+Does-alike s t (RangeSet w st en x v) a b s' t' same p d = DoesOp-alike s t w (op.RangeSet st en x v) a b s' t' same p d
+Does-alike s t (RangeUnset w st en x) a b s' t' same p d = DoesOp-alike s t w (op.RangeUnset st en x) a b s' t' same p d
+Does-alike s t (RangeDel w st en) a b s' t' same p d = DoesOp-alike s t w (op.RangeDel st en) a b s' t' same p d
+Does-alike s t (First iter) a b s' t' same p d = DoesMove-alike s t iter move.First a b s' t' same p d
+Does-alike s t (Last iter) a b s' t' same p d = DoesMove-alike s t iter move.Last a b s' t' same p d
+Does-alike s t (Next iter) a b s' t' same p d = DoesMove-alike s t iter move.Next a b s' t' same p d
+Does-alike s t (Prev iter) a b s' t' same p d = DoesMove-alike s t iter move.Prev a b s' t' same p d
+Does-alike s t (SeekGe iter key) a b s' t' same p d = DoesMove-alike s t iter (move.SeekGe key) a b s' t' same p d
+Does-alike s t (SeekLt iter key) a b s' t' same p d = DoesMove-alike s t iter (move.SeekLt key) a b s' t' same p d
 
 transcripts_alike : (lines : List Line) (s t : SessionState) (a b : List ℕ) (s' t' : SessionState)
     → AreAlike s t → IsTranscript s lines a s' → IsTranscript t lines b t' → a ≡ b

@@ -1,6 +1,5 @@
 -- Commits and openings: what they do to the entries and to the machine.
-use Rattle.std.proofs.Common.{◌≡◌, ℕ, ◌+◌, ◌<◌, true, false, zero, suc, take, get_or, add-one, List, [], ◌∷◌, ◌++◌, length, arith, ap, sym, ◌∙◌, refl, append_assoc, append-nil, length-append}
-use Rattle.std.proofs.Math.Seq.{take-suc}
+use Rattle.std.proofs.Common.{◌≡◌, ℕ, ◌+◌, ◌<◌, true, false, zero, suc, take, List, [], ◌∷◌, ◌++◌, length, arith, ap, sym, ◌∙◌, refl, append_assoc, append-nil, length-append}
 use Rattle.std.proofs.lemmas.Bool.{le-leb, lt-leb}
 use Rattle.std.specs.Prelude.{nat_le}
 use Rattle.rk_model.specs.Covers.{upto}
@@ -30,10 +29,6 @@ entries-one_more h ops =
     let same : 1 + length (operations h) ≡ last h + 1 = omega arith in
     ap (numbered 1) (operations-one_more h ops) ∙ (numbered-append 1 (operations h) ops ∙ ap (λ k. entries h ++ numbered k ops) same)
 
--- the operation after some first ones has the next number
-pub numbered-one_more : (n : ℕ) (ops : List Op) (op : Op) → numbered n (ops ++ op ∷ []) ≡ numbered n ops ++ record { op = op; seq = n + length ops } ∷ []
-numbered-one_more n ops op = numbered-append n ops (op ∷ [])
-
 none_upto : (m k : ℕ) (ops : List Op) → m < k → upto m (numbered k ops) ≡ []
 none_upto m k [] below = refl
 none_upto m k (op ∷ ops) below =
@@ -52,21 +47,10 @@ upto_from (suc n) m k (op ∷ ops) is =
 pub upto-take : (n : ℕ) (h : History) → upto n (entries h) ≡ take n (entries h)
 upto-take n h = upto_from n n 0 (operations h) (omega arith)
 
--- an entry more, with the next number
-pub append_step : (front all : List Entry) (ops : List Op) (op : Op) (seq : ℕ) → all ≡ front ++ numbered (length front + 1) ops → seq ≡ length all + 1
-    → all ++ record { op = op; seq = seq } ∷ [] ≡ front ++ numbered (length front + 1) (ops ++ op ∷ [])
-append_step front all ops op seq so_far next =
-    let len : length all ≡ length front + length ops =
-    ap length so_far ∙ (length-append front (numbered (length front + 1) ops) ∙ ap (λ n. length front + n) (length-numbered (length front + 1) ops)) in
-    let same : seq ≡ length front + 1 + length ops = omega (arith, next, len) in
-    rw (numbered-one_more (length front + 1) ops op, same, so_far) (append_assoc front (numbered (length front + 1) ops) (record { op = op; seq = length front + 1 + length ops } ∷ []))
-
--- the operation at an index is an entry too
-pub append_more : (front all now : List Entry) (ops : List Op) (i : ℕ) (item op : Op) (seq : ℕ)
-    → all ≡ front ++ numbered (length front + 1) (take i ops) → seq ≡ length all + 1 → i < length ops → item ≡ get_or ops i item → op ≡ item
-    → now ≡ all ++ record { op = op; seq = seq } ∷ [] → now ≡ front ++ numbered (length front + 1) (take (i + 1) ops)
-append_more front all now ops i item op seq so_far next within is same more =
-    let longer : take (i + 1) ops ≡ take i ops ++ item ∷ [] =
-    rw (add-one, take-suc ops i item within) (ap (λ o. take i ops ++ o ∷ []) (sym is)) in
-    more ∙ (append_step front all (take i ops) op seq so_far next
-    ∙ ap (λ os. front ++ numbered (length front + 1) os) (ap (λ o. take i ops ++ o ∷ []) same ∙ sym longer))
+-- one operation more is an entry, and those that are left are numbered from the next number on
+pub append_on : (all : List Entry) (op : Op) (seq : ℕ) (rest : List Op) (now : List Entry) → seq ≡ length all + 1 → now ≡ all ++ record { op = op; seq = seq } ∷ []
+    → now ++ numbered (length now + 1) rest ≡ all ++ numbered (length all + 1) (op ∷ rest)
+append_on all op seq rest now is more =
+    let entry : Entry = record { op = op; seq = seq } in
+    let len : length now ≡ seq = ap length more ∙ (length-append all (entry ∷ []) ∙ sym is) in
+    rw (len, more, sym is) (append_assoc all (entry ∷ []) (numbered (seq + 1) rest))

@@ -1,6 +1,9 @@
 pub mod Replies
+pub mod Causes
+pub mod Asked
 pub mod Transcript
 pub mod Input
+pub mod Output
 pub mod Ends
 pub mod Standing
 pub mod Laws

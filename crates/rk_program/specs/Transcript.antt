@@ -33,25 +33,6 @@ batch_of writer s = unwrap_or (named writer s.batches) []
 abbrev pub with_batch : List ℕ → List Op → SessionState → SessionState
 with_batch writer ops s = record s { batches = with_named writer ops s.batches }
 
--- the operation that a line gives to a writer's batch
-abbrev pub op_of : LineEvent → Option (List ℕ × Op)
-op_of (Put writer key value) = Some (writer, op.Put key value)
-op_of (Del writer key) = Some (writer, op.Del key)
-op_of (RangeSet writer start end suffix value) = Some (writer, op.RangeSet start end suffix value)
-op_of (RangeUnset writer start end suffix) = Some (writer, op.RangeUnset start end suffix)
-op_of (RangeDel writer start end) = Some (writer, op.RangeDel start end)
-op_of other = None
-
--- the move that a line makes with an iterator
-abbrev pub move_of : LineEvent → Option (List ℕ × Move)
-move_of (First iter) = Some (iter, move.First)
-move_of (Last iter) = Some (iter, move.Last)
-move_of (Next iter) = Some (iter, move.Next)
-move_of (Prev iter) = Some (iter, move.Prev)
-move_of (SeekGe iter key) = Some (iter, move.SeekGe key)
-move_of (SeekLt iter key) = Some (iter, move.SeekLt key)
-move_of other = None
-
 -- Where all checks pass, the operation is added and nothing is written. Else the first check that fails is told, and
 -- the batch stays.
 abbrev pub DoesOp : SessionState → List ℕ → Op → List ℕ → SessionState → Type 0
@@ -92,22 +73,29 @@ DoesOpening s name at options text s' = (number : Option ℕ)
     × IsTime s at number
     × DoesEvent s name (OpenAt name number options) s.batches s.snapshots text s'
 
--- a line that gives an operation to a batch, or moves an iterator
-abbrev pub DoesOther : SessionState → Option (List ℕ × Op) → Option (List ℕ × Move) → List ℕ → SessionState → Type 0
-DoesOther s (Some o) m text s' = DoesOp s o.0 o.1 text s'
-DoesOther s None (Some m) text s' = DoesEvent s m.0 (Moves m.0 m.1) s.batches s.snapshots text s'
-DoesOther s None None text s' = ⊥
+abbrev pub DoesMove : SessionState → List ℕ → Move → List ℕ → SessionState → Type 0
+DoesMove s iter step text s' = DoesEvent s iter (Moves iter step) s.batches s.snapshots text s'
 
 -- What a line does. All but the lines on batches are each one event of the machine.
 abbrev pub Does : SessionState → LineEvent → List ℕ → SessionState → Type 0
+Does s (Put writer key value) text s' = DoesOp s writer (op.Put key value) text s'
+Does s (Del writer key) text s' = DoesOp s writer (op.Del key) text s'
+Does s (RangeSet writer start end suffix value) text s' = DoesOp s writer (op.RangeSet start end suffix value) text s'
+Does s (RangeUnset writer start end suffix) text s' = DoesOp s writer (op.RangeUnset start end suffix) text s'
+Does s (RangeDel writer start end) text s' = DoesOp s writer (op.RangeDel start end) text s'
 Does s (Commit writer) text s' = DoesCommit s writer text s'
 Does s (Snap name) text s' = DoesEvent s name snaps s.batches (s.snapshots ++ (name, last s.state.history) ∷ []) text s'
 Does s (Release name) text s' = (number : ℕ)
     × (named name s.snapshots ≡ Some number)
     × DoesEvent s name (releases number) s.batches (without_named name s.snapshots) text s'
 Does s (Iter name at lower upper mask) text s' = DoesOpening s name at (record { lower = lower; upper = upper; mask = mask }) text s'
+Does s (First iter) text s' = DoesMove s iter move.First text s'
+Does s (Last iter) text s' = DoesMove s iter move.Last text s'
+Does s (Next iter) text s' = DoesMove s iter move.Next text s'
+Does s (Prev iter) text s' = DoesMove s iter move.Prev text s'
+Does s (SeekGe iter key) text s' = DoesMove s iter (move.SeekGe key) text s'
+Does s (SeekLt iter key) text s' = DoesMove s iter (move.SeekLt key) text s'
 Does s (Close iter) text s' = DoesEvent s iter (closes iter) s.batches s.snapshots text s'
-Does s event text s' = DoesOther s (op_of event) (move_of event) text s'
 
 -- what is written for lines, one after the other
 abbrev pub IsTranscript : SessionState → List Line → List ℕ → SessionState → Type 0

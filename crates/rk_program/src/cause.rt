@@ -1,7 +1,10 @@
 // How a run ends.
 ghost use Rattle.std.specs.Prelude.{◌≡◌};
+ghost use Rattle.rk_program.specs.Causes.{cause_of, refusal_of};
 
-use rk_script::Why;
+use rk_outside::NoMemory;
+use rk_script::{ScriptError, Why};
+use std::alloc::AllocError;
 use std::fmt;
 
 /// Why a run ended.
@@ -24,7 +27,17 @@ pub enum Cause {
 }
 
 impl Cause {
-    ghost use Rattle.rk_program.specs.Ends.{status_of};
+    ghost use Rattle.rk_program.specs.Causes.{status_of};
+
+    /// Why a run ended that did all, or was refused.
+    pub(crate) fn of(done: Result<(), Cause>) -> Cause
+        ensures { result ≡ cause_of done }
+    {
+        match done {
+            Ok(()) => Cause::Done,
+            Err(cause) => cause,
+        }
+    }
 
     /// The exit status of a run that ends so.
     pub fn status(&self) -> u8
@@ -44,7 +57,7 @@ impl Cause {
 /// What is said of a run that ended so, in one line.
 impl fmt::Display for Cause {
     ghost use Rattle.std.specs.Prelude.{Some};
-    ghost use Rattle.rk_program.specs.Ends.{cause_text};
+    ghost use Rattle.rk_program.specs.Causes.{cause_text};
 
     ghost output = { λ cause. Some (cause_text cause) };
 
@@ -57,6 +70,37 @@ impl fmt::Display for Cause {
             Cause::SourceFault { .. } => f.write_str("source fault"),
             Cause::SinkFault { .. } => f.write_str("sink fault"),
             Cause::Memory => f.write_str("memory"),
+        }
+    }
+}
+
+impl From<NoMemory> for Cause {
+    ghost use Rattle.rk_program.specs.declared.cause.Cause.TheVariants as causes;
+
+    ghost from_gives = { λ _ cause. cause ≡ causes.Memory };
+
+    fn from(_: NoMemory) -> Self {
+        Cause::Memory
+    }
+}
+
+impl From<AllocError> for Cause {
+    ghost use Rattle.rk_program.specs.declared.cause.Cause.TheVariants as causes;
+
+    ghost from_gives = { λ _ cause. cause ≡ causes.Memory };
+
+    fn from(_: AllocError) -> Self {
+        Cause::Memory
+    }
+}
+
+impl From<ScriptError> for Cause {
+    ghost from_gives = { λ error cause. cause ≡ refusal_of error };
+
+    fn from(error: ScriptError) -> Self {
+        match error {
+            ScriptError::Memory => Cause::Memory,
+            ScriptError::BadLine { line, why } => Cause::Line { line, why },
         }
     }
 }

@@ -9,10 +9,9 @@
 
 mod batches;
 mod cause;
-mod failure;
 mod input;
-mod iterators;
 mod laws;
+mod moves;
 mod output;
 mod program;
 mod replies;
@@ -22,6 +21,3 @@ pub use cause::{Cause, Ended};
 pub use laws::a_file_has_one_transcript;
 pub use program::run;
 pub use rk_script::Why;
-
-#[cfg(test)]
-mod tests;

@@ -2,17 +2,21 @@
 ghost use Rattle.std.specs.Prelude.{◌≡◌, ◌≤◌, length, OnOk, OnErr, IfErr, IfSome, IsTrue};
 ghost use Rattle.std.specs.Io.KnownBytes.{Appends, Keeps};
 ghost use Rattle.rk_outside.specs.Sinks.{AppendsPrefix};
-ghost use Rattle.rk_program.specs.Input.{IsFailure};
+ghost use Rattle.rk_program.specs.Output.{IsSinkRefusal};
 
-use crate::failure::Failure;
+use crate::Cause;
 use rk_outside::{Failed, Sink, SinkError};
 
 /// Writes all the bytes. Each turn gives at least one byte. After a failure some first bytes were written.
-pub fn write_all<K: Sink>(sink: &mut K, bytes: &[u8]) -> Result<(), Failure>
+///
+/// # Errors
+///
+/// [`Cause::SinkFault`] where the sink fails. [`Cause::Memory`] where it has no memory.
+pub fn write_all<K: Sink>(sink: &mut K, bytes: &[u8]) -> Result<(), Cause>
     ensures written { OnOk result (Appends (K.written sink.old) (K.written sink.new) bytes.now) }
     ensures no_fault { OnOk result (K.fault_count sink.new ≡ K.fault_count sink.old) }
     ensures part { OnErr result (AppendsPrefix (K.written sink.old) (K.written sink.new) bytes.now) }
-    ensures cause { IfErr result (IsFailure (K.fault_count sink.old) (K.fault_count sink.new)) }
+    ensures cause { IfErr result (IsSinkRefusal (K.fault_count sink.old) (K.fault_count sink.new)) }
     ensures later { K.fault_count sink.old ≤ K.fault_count sink.new }
 {
     let mut rest = bytes;
@@ -22,9 +26,9 @@ pub fn write_all<K: Sink>(sink: &mut K, bytes: &[u8]) -> Result<(), Failure>
                 let (_, after) = rest.split_at(count);
                 rest = after;
             }
-            Err(SinkError::Memory) => return Err(Failure::Memory),
+            Err(SinkError::Memory) => return Err(Cause::Memory),
             Err(SinkError::Failed) => {
-                return Err(Failure::Fault {
+                return Err(Cause::SinkFault {
                     faults: sink.faults(),
                 });
             }
@@ -34,16 +38,20 @@ pub fn write_all<K: Sink>(sink: &mut K, bytes: &[u8]) -> Result<(), Failure>
 }
 
 /// Hands on what was written.
-pub fn finish<K: Sink>(sink: &mut K) -> Result<(), Failure>
+///
+/// # Errors
+///
+/// [`Cause::SinkFault`] where the sink fails.
+pub fn finish<K: Sink>(sink: &mut K) -> Result<(), Cause>
     ensures kept { Keeps (K.written sink.old) (K.written sink.new) }
     ensures finished { OnOk result (IfSome (K.finished sink.new) IsTrue) }
     ensures no_fault { OnOk result (K.fault_count sink.new ≡ K.fault_count sink.old) }
-    ensures cause { IfErr result (IsFailure (K.fault_count sink.old) (K.fault_count sink.new)) }
+    ensures cause { IfErr result (IsSinkRefusal (K.fault_count sink.old) (K.fault_count sink.new)) }
     ensures later { K.fault_count sink.old ≤ K.fault_count sink.new }
 {
     match sink.finish() {
         Ok(()) => Ok(()),
-        Err(Failed) => Err(Failure::Fault {
+        Err(Failed) => Err(Cause::SinkFault {
             faults: sink.faults(),
         }),
     }

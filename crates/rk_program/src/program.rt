@@ -4,17 +4,18 @@ ghost use Rattle.std.specs.Io.KnownBytes.{Keeps};
 ghost use Rattle.rk_outside.specs.Causes.{Rose};
 ghost use Rattle.rk_script.specs.Script.{no_names, script};
 ghost use Rattle.rk_script.specs.declared.line.Line.{Line};
-ghost use Rattle.rk_program.specs.Input.{most_file_bytes, GaveTooMany, TookAtMost, IsFault, IsFailure};
-ghost use Rattle.rk_program.specs.Ends.{status_of, are_words, is_words, OnDone, OnLine, OnLength, OnSourceFault, OnSinkFault, OnMemory, OnNotBegun, UnlessSourceFault, UnlessSinkFault, IsDoneOrMemory, GaveLines, GaveBadLine, Wrote, WrotePart, DidAll, DidPart, IsNoFile, IsEnd};
+ghost use Rattle.rk_program.specs.Causes.{cause_of, status_of, are_words, is_words, OnDone, OnLine, OnLength, OnSourceFault, OnSinkFault, OnMemory, OnNotBegun, UnlessSourceFault, UnlessSinkFault, IsDoneOrMemory};
+ghost use Rattle.rk_program.specs.Input.{GaveTooMany, TookAtMost, IsFault};
+ghost use Rattle.rk_program.specs.Output.{IsSinkRefusal};
+ghost use Rattle.rk_program.specs.Ends.{GaveLines, GaveBadLine, Wrote, WrotePart, DidAll, DidPart, IsNoFile, IsEnd};
 ghost use Rattle.rk_program.specs.Transcript.{AreAccepted};
 
-use crate::failure::{Failure, NoFile};
 use crate::input::{MOST_FILE_BYTES, read_all};
 use crate::output::{finish, write_all};
 use crate::session::Session;
 use crate::{Cause, Ended};
 use rk_outside::{Sink, Source};
-use rk_script::{Line, ScriptError, read_script};
+use rk_script::{Line, read_script};
 use std::alloc::Global;
 
 /// Runs the program over a source, a sink and a vault: it takes the words, reads the source to its end,
@@ -35,10 +36,10 @@ pub fn run<S: Source, K: Sink, V>(
     ensures unread { IsTrue (is_words result.cause) → source.new ≡ source.old }
 
     // However it ends, at most one byte above the limit was taken.
-    ensures taken { TookAtMost (S.left source.old) (S.left source.new) (most_file_bytes + 1) }
+    ensures taken { TookAtMost (S.left source.old) (S.left source.new) (MOST_FILE_BYTES + 1) }
 
     // Each other cause tells what came of the input, and a fault comes only where that object's count rose.
-    ensures length { OnLength result.cause (λ limit. (limit ≡ most_file_bytes) × GaveTooMany (S.left source.old) (S.left source.new)) }
+    ensures length { OnLength result.cause (λ limit. (limit ≡ MOST_FILE_BYTES) × GaveTooMany (S.left source.old) (S.left source.new)) }
     ensures line { OnLine result.cause (GaveBadLine (S.left source.old) (S.left source.new)) }
     ensures source_fault { OnSourceFault result.cause (IsFault (S.fault_count source.old) (S.fault_count source.new)) }
     ensures sink_fault { OnSinkFault result.cause (IsFault (K.fault_count sink.old) (K.fault_count sink.new)) }
@@ -61,11 +62,11 @@ pub fn run<S: Source, K: Sink, V>(
         ⊎ DidPart (S.left source.old) (S.left source.new) (K.written sink.old) (K.written sink.new)) }
 
     // Where the words and the file are as they must be and nothing failed, only memory can be wanting.
-    ensures completes { (file : List ℕ) (lines : List Line) → S.left source.old ≡ Some file → length file ≤ most_file_bytes → script file ≡ Ok lines
+    ensures completes { (file : List ℕ) (lines : List Line) → S.left source.old ≡ Some file → length file ≤ MOST_FILE_BYTES → script file ≡ Ok lines
         → IsTrue (are_words words.now) → ¬ Rose (S.fault_count source.old) (S.fault_count source.new)
         → ¬ Rose (K.fault_count sink.old) (K.fault_count sink.new) → IsDoneOrMemory result.cause }
 {
-    let cause = end(alloc, words, source, sink);
+    let cause = Cause::of(do_all(alloc, words, source, sink));
     Ended {
         status: cause.status(),
         cause,
@@ -73,38 +74,29 @@ pub fn run<S: Source, K: Sink, V>(
     }
 }
 
-// Runs the program and answers how it ended.
-fn end<S: Source, K: Sink>(alloc: Global, words: &[String], source: &mut S, sink: &mut K) -> Cause
-    ensures words { is_words result ≡ not (are_words words.now) }
-    ensures unread { IsTrue (is_words result) → source.new ≡ source.old }
-    ensures taken { TookAtMost (S.left source.old) (S.left source.new) (most_file_bytes + 1) }
-    ensures end { IsEnd (S.left source.old) (S.left source.new) (K.written sink.old) (K.written sink.new) (S.fault_count source.old) (S.fault_count source.new) (K.fault_count sink.old) (K.fault_count sink.new) result }
+// Reads the source, and does its lines.
+fn do_all<S: Source, K: Sink>(
+    alloc: Global,
+    words: &[String],
+    source: &mut S,
+    sink: &mut K,
+) -> Result<(), Cause>
+    ensures words { is_words (cause_of result) ≡ not (are_words words.now) }
+    ensures unread { IsTrue (is_words (cause_of result)) → source.new ≡ source.old }
+    ensures taken { TookAtMost (S.left source.old) (S.left source.new) (MOST_FILE_BYTES + 1) }
+    ensures end { IsEnd (S.left source.old) (S.left source.new) (K.written sink.old) (K.written sink.new) (S.fault_count source.old) (S.fault_count source.new) (K.fault_count sink.old) (K.fault_count sink.new) (cause_of result) }
     ensures source_count { S.fault_count source.old ≤ S.fault_count source.new }
     ensures sink_count { K.fault_count sink.old ≤ K.fault_count sink.new }
-    ensures not_begun { OnNotBegun result (sink.new ≡ sink.old) }
-    ensures no_source_fault { UnlessSourceFault result (S.fault_count source.new ≡ S.fault_count source.old) }
-    ensures no_sink_fault { UnlessSinkFault result (K.fault_count sink.new ≡ K.fault_count sink.old) }
-    ensures finished { OnDone result (IfSome (K.finished sink.new) IsTrue) }
+    ensures not_begun { OnNotBegun (cause_of result) (sink.new ≡ sink.old) }
+    ensures no_source_fault { UnlessSourceFault (cause_of result) (S.fault_count source.new ≡ S.fault_count source.old) }
+    ensures no_sink_fault { UnlessSinkFault (cause_of result) (K.fault_count sink.new ≡ K.fault_count sink.old) }
+    ensures finished { OnDone (cause_of result) (IfSome (K.finished sink.new) IsTrue) }
 {
     if !is_run(words) {
-        return Cause::Words;
+        return Err(Cause::Words);
     }
-    let lines = match read_lines(alloc, source) {
-        Ok(lines) => lines,
-        Err(NoFile::Memory) => return Cause::Memory,
-        Err(NoFile::Fault { faults }) => return Cause::SourceFault { faults },
-        Err(NoFile::TooLong) => {
-            return Cause::Length {
-                limit: MOST_FILE_BYTES as u64,
-            };
-        }
-        Err(NoFile::BadLine { line, why }) => return Cause::Line { line, why },
-    };
-    match do_lines(alloc, &lines, sink) {
-        Ok(()) => Cause::Done,
-        Err(Failure::Memory) => Cause::Memory,
-        Err(Failure::Fault { faults }) => Cause::SinkFault { faults },
-    }
+    let lines = read_lines(alloc, source)?;
+    do_lines(alloc, lines, sink)
 }
 
 // Whether the words are the one word `run`.
@@ -118,44 +110,30 @@ fn is_run(words: &[String]) -> bool
 }
 
 // Reads a source to its end, and the lines of what it gave.
-fn read_lines<S: Source>(alloc: Global, source: &mut S) -> Result<Vec<Line>, NoFile>
+fn read_lines<S: Source>(alloc: Global, source: &mut S) -> Result<Vec<Line>, Cause>
     ensures lines { IfOk result (λ lines. GaveLines (S.left source.old) (S.left source.new) lines.items) }
-    ensures taken { TookAtMost (S.left source.old) (S.left source.new) (most_file_bytes + 1) }
+    ensures taken { TookAtMost (S.left source.old) (S.left source.new) (MOST_FILE_BYTES + 1) }
     ensures no_fault { OnOk result (S.fault_count source.new ≡ S.fault_count source.old) }
     ensures cause { IfErr result (IsNoFile (S.left source.old) (S.left source.new) (S.fault_count source.old) (S.fault_count source.new)) }
     ensures later { S.fault_count source.old ≤ S.fault_count source.new }
 {
-    let file = match read_all(alloc, source) {
-        Ok(file) => file,
-        Err(Failure::Memory) => return Err(NoFile::Memory),
-        Err(Failure::Fault { faults }) => return Err(NoFile::Fault { faults }),
-    };
-    if file.len() > MOST_FILE_BYTES {
-        return Err(NoFile::TooLong);
-    }
-    match read_script(alloc, &file) {
-        Ok(lines) => Ok(lines),
-        Err(ScriptError::Memory) => Err(NoFile::Memory),
-        Err(ScriptError::BadLine { line, why }) => Err(NoFile::BadLine { line, why }),
-    }
+    let file = read_all(alloc, source)?;
+    Ok(read_script(alloc, &file)?)
 }
 
 // Does the lines one after the other, each line's replies before the next line, and finishes the sink.
-fn do_lines<K: Sink>(alloc: Global, lines: &[Line], sink: &mut K) -> Result<(), Failure>
-    requires { AreAccepted no_names lines.now }
-    ensures done { OnOk result (Wrote (K.written sink.old) (K.written sink.new) lines.now) }
+fn do_lines<K: Sink>(alloc: Global, lines: Vec<Line>, sink: &mut K) -> Result<(), Cause>
+    requires { AreAccepted no_names lines.items }
+    ensures done { OnOk result (Wrote (K.written sink.old) (K.written sink.new) lines.items) }
     ensures finished { OnOk result (IfSome (K.finished sink.new) IsTrue) }
     ensures no_fault { OnOk result (K.fault_count sink.new ≡ K.fault_count sink.old) }
-    ensures part { OnErr result (WrotePart (K.written sink.old) (K.written sink.new) lines.now) }
-    ensures cause { IfErr result (IsFailure (K.fault_count sink.old) (K.fault_count sink.new)) }
+    ensures part { OnErr result (WrotePart (K.written sink.old) (K.written sink.new) lines.items) }
+    ensures cause { IfErr result (IsSinkRefusal (K.fault_count sink.old) (K.fault_count sink.new)) }
     ensures later { K.fault_count sink.old ≤ K.fault_count sink.new }
 {
     let mut session = Session::new(alloc);
     for line in lines {
-        let text = match session.line(line) {
-            Ok(text) => text,
-            Err(_) => return Err(Failure::Memory),
-        };
+        let text = session.line(line.event)?;
         write_all(sink, &text)?;
     }
     finish(sink)

@@ -2,14 +2,13 @@
 ghost use Rattle.std.specs.Prelude.{◌≡◌, ◌<◌, true, false, map, take, length, slice_index_or};
 ghost use Rattle.rk_script.specs.Naming.{is_called};
 
-use crate::batches::{append, give, place_of};
-use crate::iterators::{make_move, open_over};
+use crate::batches::{BatchOp, append, place_of};
+use crate::moves::Move;
 use crate::replies;
 use rk_batch::Batch;
-use rk_key::{Suffix, UserKey};
-use rk_model::{Entry, Plain};
+use rk_model::{Entry, IterOptions, Plain};
 use rk_outside::{Bytes, NoMemory};
-use rk_script::{Event, Line, Named, find};
+use rk_script::{Event, Named, find};
 use std::alloc::Global;
 
 /// A writer and its batch.
@@ -71,11 +70,11 @@ pub struct Session {
 
 impl Session {
     ghost use Rattle.std.specs.Prelude.{◌≡◌, ◌≤◌, List, IsTrue, IfOk, IfSome, length};
-    ghost use Rattle.std.specs.Option.{option_map};
     ghost use Rattle.rk_model.specs.Named.{named};
     ghost use Rattle.rk_script.specs.Script.{is_accepted};
-    ghost use Rattle.rk_script.specs.declared.line.Event.TheVariants.{Snap, Release, Iter, Close};
-    ghost use Rattle.rk_program.specs.Transcript.{SessionState, begin, op_of, move_of, DoesCommit, Does};
+    ghost use Rattle.rk_script.specs.declared.line.Event.TheVariants.{Snap, Release, Close};
+    ghost use Rattle.rk_program.specs.Asked.{op_of, move_of};
+    ghost use Rattle.rk_program.specs.Transcript.{SessionState, begin, DoesOp, DoesCommit, DoesOpening, DoesMove, Does};
     ghost use Rattle.rk_program.specs.Standing.{StandsFor, AreWithin, names_in, numbers, opens, IsFree, IsLive};
 
     /// Nothing was committed, and no name is in use.
@@ -91,52 +90,75 @@ impl Session {
         }
     }
 
-    /// Does a line and answers what is written for it.
-    pub fn line(&mut self, line: &Line) -> Result<Vec<u8>, NoMemory>
-        requires accepted { IsTrue (is_accepted (names_in self.old) line.now.event) }
+    /// Does what a line asks for, and answers what is written for it.
+    ///
+    /// # Errors
+    ///
+    /// [`NoMemory`] where there is no memory for it.
+    pub fn line(&mut self, event: Event) -> Result<Vec<u8>, NoMemory>
+        requires accepted { IsTrue (is_accepted (names_in self.old) event) }
         requires within { AreWithin self.old }
-        ensures { (s : SessionState) → StandsFor self.old s → IfOk result (λ text. (t : SessionState) × Does s line.now.event text.items t × StandsFor self.new t) }
+        ensures { (s : SessionState) → StandsFor self.old s → IfOk result (λ text. (t : SessionState) × Does s event text.items t × StandsFor self.new t) }
     {
-        let event = &line.event;
         match event {
-            Event::Put { writer, .. }
-            | Event::Del { writer, .. }
-            | Event::RangeSet { writer, .. }
-            | Event::RangeUnset { writer, .. }
-            | Event::RangeDel { writer, .. } => self.give(writer, event),
-            Event::Commit { writer } => self.commit(writer),
+            Event::Put { writer, key, value } => self.give(&writer, &BatchOp::Put { key, value }),
+            Event::Del { writer, key } => self.give(&writer, &BatchOp::Del { key }),
+            Event::RangeSet {
+                writer,
+                start,
+                end,
+                suffix,
+                value,
+            } => self.give(
+                &writer,
+                &BatchOp::RangeSet {
+                    start,
+                    end,
+                    suffix,
+                    value,
+                },
+            ),
+            Event::RangeUnset {
+                writer,
+                start,
+                end,
+                suffix,
+            } => self.give(&writer, &BatchOp::RangeUnset { start, end, suffix }),
+            Event::RangeDel { writer, start, end } => {
+                self.give(&writer, &BatchOp::RangeDel { start, end })
+            }
+            Event::Commit { writer } => self.commit(&writer),
             Event::Snap { name } => self.snap(name),
-            Event::Release { name } => self.release(name),
+            Event::Release { name } => self.release(&name),
             Event::Iter {
                 name,
                 at,
                 lower,
                 upper,
                 mask,
-            } => self.open(name, at, lower, upper, mask),
-            Event::First { iter }
-            | Event::Last { iter }
-            | Event::Next { iter }
-            | Event::Prev { iter }
-            | Event::SeekGe { iter, .. }
-            | Event::SeekLt { iter, .. } => self.step(iter, event),
-            Event::Close { iter } => self.close(iter),
+            } => self.open(name, &at, &IterOptions { lower, upper, mask }),
+            Event::First { iter } => self.step(&iter, &Move::First),
+            Event::Last { iter } => self.step(&iter, &Move::Last),
+            Event::Next { iter } => self.step(&iter, &Move::Next),
+            Event::Prev { iter } => self.step(&iter, &Move::Prev),
+            Event::SeekGe { iter, key } => self.step(&iter, &Move::SeekGe(key)),
+            Event::SeekLt { iter, key } => self.step(&iter, &Move::SeekLt(key)),
+            Event::Close { iter } => self.close(&iter),
         }
     }
 
-    // Gives a writer's batch the operation of a line. A refusal is told.
-    fn give(&mut self, writer: &Bytes, event: &Event) -> Result<Vec<u8>, NoMemory>
-        requires op { option_map (λ o. o.0) (op_of event.now) ≡ Some writer.now }
-        ensures { (s : SessionState) → StandsFor self.old s → IfOk result (λ text. (t : SessionState) × Does s event.now text.items t × StandsFor self.new t) }
+    // Gives a writer's batch an operation. A refusal is told.
+    fn give(&mut self, writer: &Bytes, op: &BatchOp) -> Result<Vec<u8>, NoMemory>
+        ensures { (s : SessionState) → StandsFor self.old s → IfOk result (λ text. (t : SessionState) × DoesOp s writer.now (op_of op.now) text.items t × StandsFor self.new t) }
     {
         let i = place_of(self.alloc, &mut self.writers, writer)?;
-        match give(&mut self.writers[i].batch, event) {
+        match op.add_to(&mut self.writers[i].batch) {
             Ok(()) => Ok(Vec::new(self.alloc)),
             Err(error) => replies::refused(self.alloc, writer.bytes(), error),
         }
     }
 
-    // Copies a writer's batch behind the entries, and clears it. A batch without operations is refused.
+    // Moves the operations of a writer's batch behind the entries. A batch without operations is refused.
     fn commit(&mut self, writer: &Bytes) -> Result<Vec<u8>, NoMemory>
         ensures { (s : SessionState) → StandsFor self.old s → IfOk result (λ text. (t : SessionState) × DoesCommit s writer.now text.items t × StandsFor self.new t) }
     {
@@ -146,23 +168,19 @@ impl Session {
             return replies::empty_batch(self.alloc, writer.bytes());
         }
         let first = self.entries.len() as u64 + 1;
-        append(&mut self.entries, batch.ops())?;
-        batch.clear();
+        append(&mut self.entries, batch.take_ops())?;
         let last = self.entries.len() as u64;
         replies::committed(self.alloc, writer.bytes(), first, last)
     }
 
     // Takes a snapshot of what is committed now.
-    fn snap(&mut self, name: &Bytes) -> Result<Vec<u8>, NoMemory>
-        ensures { (s : SessionState) → StandsFor self.old s → IfOk result (λ text. (t : SessionState) × Does s (Snap name.now) text.items t × StandsFor self.new t) }
+    fn snap(&mut self, name: Bytes) -> Result<Vec<u8>, NoMemory>
+        ensures { (s : SessionState) → StandsFor self.old s → IfOk result (λ text. (t : SessionState) × Does s (Snap name) text.items t × StandsFor self.new t) }
     {
         let number = self.entries.len() as u64;
-        let snapshot = Snapshot {
-            name: name.copy()?,
-            number,
-        };
-        self.snapshots.push(snapshot)?;
-        replies::snapped(self.alloc, name.bytes(), number)
+        let text = replies::snapped(self.alloc, name.bytes(), number)?;
+        self.snapshots.push(Snapshot { name, number })?;
+        Ok(text)
     }
 
     // Releases a snapshot.
@@ -178,26 +196,24 @@ impl Session {
     // Opens an iterator over the entries up to a snapshot's number, or over those that are committed now.
     fn open(
         &mut self,
-        name: &Bytes,
+        name: Bytes,
         at: &Option<Bytes>,
-        lower: &Option<UserKey>,
-        upper: &Option<UserKey>,
-        mask: &Option<Suffix>,
+        options: &IterOptions,
     ) -> Result<Vec<u8>, NoMemory>
-        requires free { IsFree name.now (opens self.old.iterators.items) }
+        requires free { IsFree name (opens self.old.iterators.items) }
         requires live { IfSome at.now (λ snapshot. IsLive snapshot (numbers self.old.snapshots.items)) }
         requires within { AreWithin self.old }
-        ensures { (s : SessionState) → StandsFor self.old s → IfOk result (λ text. (t : SessionState) × Does s (Iter name.now at.now lower.now upper.now mask.now) text.items t × StandsFor self.new t) }
+        ensures { (s : SessionState) → StandsFor self.old s → IfOk result (λ text. (t : SessionState) × DoesOpening s name at.now options.now text.items t × StandsFor self.new t) }
     {
         let number = self.time(at);
-        let entries = &self.entries[..number as usize];
-        let plain = open_over(self.alloc, entries, lower, upper, mask)?;
+        let plain = Plain::new(self.alloc, &self.entries[..number as usize], options)?;
+        let text = replies::opened(self.alloc, name.bytes(), number)?;
         self.iterators.push(OpenIterator {
-            name: name.copy()?,
+            name,
             number,
             plain,
         })?;
-        replies::opened(self.alloc, name.bytes(), number)
+        Ok(text)
     }
 
     // The number of a snapshot, or of the last entry.
@@ -215,14 +231,13 @@ impl Session {
         self.snapshots[i].number
     }
 
-    // Moves an iterator as a line asks for.
-    fn step(&mut self, iter: &Bytes, event: &Event) -> Result<Vec<u8>, NoMemory>
-        requires moves { option_map (λ m. m.0) (move_of event.now) ≡ Some iter.now }
+    // Moves an iterator.
+    fn step(&mut self, iter: &Bytes, step: &Move) -> Result<Vec<u8>, NoMemory>
         requires live { IsLive iter.now (opens self.old.iterators.items) }
-        ensures { (s : SessionState) → StandsFor self.old s → IfOk result (λ text. (t : SessionState) × Does s event.now text.items t × StandsFor self.new t) }
+        ensures { (s : SessionState) → StandsFor self.old s → IfOk result (λ text. (t : SessionState) × DoesMove s iter.now (move_of step.now) text.items t × StandsFor self.new t) }
     {
         let i = live_place(&self.iterators, iter);
-        make_move(&mut self.iterators[i].plain, event)?;
+        step.make(&mut self.iterators[i].plain)?;
         replies::stands(self.alloc, iter.bytes(), &self.iterators[i].plain)
     }
 

@@ -6,6 +6,7 @@ use Rattle.rk_script.specs.Checks.{Check, checked}
 use Rattle.rk_script.specs.Grammar.{event_of, and_then}
 use Rattle.rk_script.specs.Naming.{is_called, with_name, without_name}
 use Rattle.rk_script.specs.Words.{lines, words, is_skipped, is_printable}
+use Rattle.rk_script.specs.declared.limits.TheConstants.{MOST_WRITERS, MOST_ITERATORS, MOST_SNAPSHOTS}
 use Rattle.rk_script.specs.declared.line.Event.{Event}
 use Rattle.rk_script.specs.declared.line.Event.TheVariants.{Put, Del, RangeSet, RangeUnset, RangeDel, Commit, Snap, Release, Iter, First, Last, Next, Prev, SeekGe, SeekLt, Close}
 use Rattle.rk_script.specs.declared.line.Line.{Line}
@@ -13,15 +14,6 @@ use Rattle.rk_script.specs.declared.line.ScriptError.{ScriptError}
 use Rattle.rk_script.specs.declared.line.ScriptError.TheVariants as refusals
 use Rattle.rk_script.specs.declared.line.Why.{Why}
 use Rattle.rk_script.specs.declared.line.Why.TheVariants.{Byte, NoName, Taken, TooMany}
-
-abbrev pub most_writers : ℕ
-most_writers = 64
-
-abbrev pub most_iterators : ℕ
-most_iterators = 100
-
-abbrev pub most_snapshots : ℕ
-most_snapshots = 1000
 
 -- The names that are live. One word may be a name of each kind.
 pub record Names : Type 0 where
@@ -62,12 +54,12 @@ is_free names (Iter name at lower upper mask) = not (is_called name names.iterat
 is_free names _ = true
 
 abbrev pub has_room_for : List ℕ → List (List ℕ) → Bool
-has_room_for writer writers = is_called writer writers || nat_lt (length writers) most_writers
+has_room_for writer writers = is_called writer writers || nat_lt (length writers) MOST_WRITERS
 
 -- whether there are no more names than there may be after a line
 abbrev pub has_room : Names → Event → Bool
-has_room names (Snap name) = nat_lt (length names.snapshots) most_snapshots
-has_room names (Iter name at lower upper mask) = nat_lt (length names.iterators) most_iterators
+has_room names (Snap name) = nat_lt (length names.snapshots) MOST_SNAPSHOTS
+has_room names (Iter name at lower upper mask) = nat_lt (length names.iterators) MOST_ITERATORS
 has_room names event = option_map_or (λ writer. has_room_for writer names.writers) (writer_of event) true
 
 -- whether the live names let a line stand

@@ -5,6 +5,7 @@ use Rattle.std.specs.Option.{option_map, option_and_then}
 use Rattle.rk_key.specs.KeyTests.{is_digit, is_suffix}
 use Rattle.rk_model.specs.Lists.{none_of}
 use Rattle.rk_model.specs.Spans.{same_bytes}
+use Rattle.rk_script.specs.declared.limits.TheConstants.{MOST_NAME_BYTES}
 
 abbrev pub line_end : ℕ
 line_end = 10
@@ -42,10 +43,10 @@ is_letter b = nat_le 97 b && nat_le b 122
 abbrev pub is_name_byte : ℕ → Bool
 is_name_byte b = is_letter b || is_digit b || (b == 95)
 
--- 1 to 32 of these bytes, the first a letter
+-- one of these bytes at least, the first a letter, and no more than a name has
 abbrev pub is_name : List ℕ → Bool
 is_name [] = false
-is_name (b ∷ bs) = is_letter b && list_all is_name_byte bs && nat_lt (length bs) 32
+is_name (b ∷ bs) = is_letter b && list_all is_name_byte bs && nat_lt (length bs) MOST_NAME_BYTES
 
 -- a hexadecimal digit in lower case
 abbrev pub hex_digit : ℕ → ℕ

@@ -66,12 +66,19 @@ fn one_name(alloc: Global, words: &[&[u8]]) -> Read<Bytes>
 fn seek(alloc: Global, words: &[&[u8]]) -> Read<(Bytes, UserKey)>
     ensures { Reads result (two name_and_key (map (λ w. w.now) words.now)) }
 {
-    let [iter, key] = words else {
-        return Err(LineError::Bad(Why::Count));
-    };
+    match words {
+        [iter, key] => seek_of(alloc, iter, key),
+        _ => Err(LineError::Bad(Why::Count)),
+    }
+}
+
+fn seek_of(alloc: Global, iter: &[u8], key: &[u8]) -> Read<(Bytes, UserKey)>
+    ensures { Reads result (name_and_key iter.now key.now) }
+{
     let iter = name_of(alloc, iter)?;
     let key = unescape(alloc, key)?;
-    Ok((iter, key_of(alloc, key.bytes())?))
+    let key = key_of(alloc, key.bytes())?;
+    Ok((iter, key))
 }
 
 /// A commit: a writer. A word behind it would have to be a fixed one.

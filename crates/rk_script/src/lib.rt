@@ -12,12 +12,11 @@ mod escape;
 mod grammar;
 mod iter;
 mod keys;
+mod limits;
 mod line;
 mod named;
 mod names;
 mod read;
-#[cfg(test)]
-mod tests;
 mod verb;
 mod words;
 

@@ -4,21 +4,13 @@ ghost use Rattle.rk_script.specs.Naming.{is_called, with_name, without_name};
 ghost use Rattle.rk_script.specs.Script.{are_live, is_free, has_room, has_room_for, name_checks, names_after, no_names};
 ghost use Rattle.rk_script.specs.Checks.{checked};
 
+use crate::limits::{MOST_ITERATORS, MOST_SNAPSHOTS, MOST_WRITERS};
 use crate::named::Named;
 use crate::words::is_word;
 use crate::{Event, Why, find};
 use rk_outside::{Bytes, NoMemory};
 use std::alloc::Global;
 use std::marker::Model;
-
-/// The most writers of a file.
-const MOST_WRITERS: usize = 64;
-
-/// The most iterators that are open at once.
-const MOST_ITERATORS: usize = 100;
-
-/// The most snapshots that are live at once.
-const MOST_SNAPSHOTS: usize = 1000;
 
 /// The names of writers, iterators and snapshots that are live. Contracts see the three lists.
 #[derive(Debug, Drop)]

@@ -8,6 +8,7 @@ ghost use Rattle.rk_script.specs.Words.{words, space, is_skipped, is_printable, 
 
 use crate::Why;
 use crate::error::{LineError, Read};
+use crate::limits::MOST_NAME_BYTES;
 use rk_outside::Bytes;
 use std::alloc::{AllocError, Global};
 
@@ -54,14 +55,14 @@ pub(crate) fn name_of(alloc: Global, word: &[u8]) -> Read<Bytes>
     }
 }
 
-/// Whether a word is a name: 1 to 32 lower-case letters, digits and `_`, the first a letter.
+/// Whether a word is a name: lower-case letters, digits and `_`, the first a letter, and no more of them than a name has.
 fn is_name(word: &[u8]) -> bool
     ensures { result ≡ is_name word.now }
 {
     match word {
         [first, rest @ ..] => first.is_ascii_lowercase()
             && is_of_name_bytes(rest)
-            && rest.len() < 32,
+            && rest.len() < MOST_NAME_BYTES,
         [] => false,
     }
 }

@@ -25,14 +25,14 @@ returns c =
     let x = c.index_mut.result.now in
     let old = c.args.self.now.entries.items in
     let place = c.in_ok-i.ensures in
-    let more = c.in_ok-append.ensures ∙ ap (λ ops. old ++ numbered (length old + 1) ops) c.ops.ensures in
+    let more = c.in_ok-append.ensures ∙ ap (λ ops. old ++ numbered (length old + 1) ops) c.take_ops.ensures.ops in
     λ s stands. IfOk-weaker c.committed.result _ _
     (λ text said. commit_does c.args.self.now _ c.args.writer.now x.batch text.items s stands
     (ap writer_batch c.index_mut.ensures.value ∙ place.batch x)
     (omega (arith, c.count.ensures, c.if-count-eq0.false))
     more
-    (place.put (record { name = x.name; batch = c.clear.new.self }) (ap writer_name c.index_mut.ensures.value ∙ place.called x)
-    ∙ ap (λ b. with_named c.args.writer.now b (batches c.args.self.now.writers.items)) c.clear.ensures)
+    (place.put (record { name = x.name; batch = c.take_ops.new.self }) (ap writer_name c.index_mut.ensures.value ∙ place.called x)
+    ∙ ap (λ b. with_named c.args.writer.now b (batches c.args.self.now.writers.items)) c.take_ops.ensures.empty)
     refl refl
     (said_committed c.args.writer.now c.bytes-2.result.now _ _ old c.append.new.entries.items x.batch text.items
     said c.bytes-2.ensures (omega (arith, c.len.ensures)) (omega (arith, c.len-last.ensures)) more))
