@@ -20,6 +20,3 @@ mod shadow;
 pub use cover::coalesce;
 pub use keep::coalesce_stripes;
 pub use laws::{the_cover_of_a_span_is_that_of_its_keys, what_a_span_keeps_is_what_its_keys_keep};
-
-#[cfg(test)]
-mod tests;

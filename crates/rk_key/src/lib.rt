@@ -18,6 +18,3 @@ pub use error::{KeyError, Which};
 pub use key::{UserKey, read_key};
 pub use order::{compare, compare_suffixes, split};
 pub use suffix::{Suffix, read_suffix};
-
-#[cfg(test)]
-mod tests;

@@ -47,6 +47,3 @@ pub use same_entries::{
     cover_is_that_of_what_the_spans_do, point_is_that_of_its_operations_in_any_order,
     the_order_of_entries_does_not_matter,
 };
-
-#[cfg(test)]
-mod tests;

@@ -11,6 +11,3 @@
 mod hiding;
 
 pub use hiding::masks;
-
-#[cfg(test)]
-mod tests;

@@ -32,6 +32,3 @@ pub use places::{before_cut, behind_cut, compare_entries, point_ge, point_lt, sp
 pub use plain::{Plain, first_greater};
 pub use source::{PointList, PointSource, SpanList, SpanSource};
 pub use span::{RangeKey, RangeKeys, RangeKind, Span, SuffixValue};
-
-#[cfg(test)]
-mod source_tests;

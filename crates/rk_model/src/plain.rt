@@ -316,6 +316,3 @@ fn is_same_span(old: &Option<KeptSpan>, new: &Option<KeptSpan>) -> bool
         _ => false,
     }
 }
-
-#[cfg(test)]
-mod tests;

@@ -12,6 +12,10 @@
 //! What is read through a reader counts its reads and its faults there: [`Counting`]. A reader for what lies in
 //! memory is [`NoReads`].
 //!
+//! A [`Vault`] holds files under numbers. Its contracts see what reads give and, for each moment so far, what a
+//! crash may leave of each file; each may be untold. A file that no longer changes is [`Sealed`]. What follows for
+//! several changes in a row stands in `proofs`: `Steps` goes on by one change.
+//!
 //! The refusals of the calls above stand here too, since many crates share them.
 #![tactic(auto)]
 
@@ -21,8 +25,10 @@ mod counting;
 mod error;
 mod memory;
 mod schedule;
+mod sealed;
 mod sink;
 mod source;
+mod vault;
 
 pub use bytes::Bytes;
 pub use counting::{Counting, NoReads};
@@ -30,8 +36,7 @@ pub use error::{
     BuildError, Failed, NoMemory, Refused, SinkError, SourceError, StoreError, VaultError, What,
 };
 pub use memory::{SliceSource, SteadySink, SteadySource, VecSink};
+pub use sealed::Sealed;
 pub use sink::{Sink, WriteSink};
 pub use source::{ReadSource, Source};
-
-#[cfg(test)]
-mod tests;
+pub use vault::Vault;

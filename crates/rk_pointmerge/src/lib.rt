@@ -26,6 +26,3 @@ pub use laws::{
 };
 pub use merge::PointMerge;
 pub use visible::Visible;
-
-#[cfg(test)]
-mod tests;

@@ -21,6 +21,3 @@ pub use laws::{
     sorted_cuts_have_differing_keys,
 };
 pub use merge::SpanMerge;
-
-#[cfg(test)]
-mod tests;
