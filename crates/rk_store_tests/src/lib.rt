@@ -7,7 +7,11 @@
 #![tactic(auto)]
 
 #[cfg(test)]
+mod damage;
+#[cfg(test)]
 mod journals;
+#[cfg(test)]
+mod manifests;
 #[cfg(test)]
 mod turns;
 #[cfg(test)]
