@@ -3,8 +3,9 @@
 #
 # A program is a folder examples/bench/NAME. Its files, and the modules beside the folders, which all programs share,
 # are those of a crate rk_bench_NAME with '.txt' behind each name: PART.rt.txt of its src/, proofs/.. of its proofs/,
-# specs/.. of its specs/. A module of its own takes the place of a shared one of that name. The file 'crates' names the crates that it stands on. They are added to one copy of the
-# last commit, where each is proved and built by LLVM before it runs.
+# specs/.. of its specs/. A module of its own takes the place of a shared one of that name. The file 'crates' names the
+# crates that it stands on. They are added to one copy of the last commit, where each is proved and built by LLVM before
+# it runs.
 #
 # A program writes a line behind each piece of its work:
 #     NAME            prints the milliseconds since the line before, or since the program began
