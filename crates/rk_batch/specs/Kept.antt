@@ -5,7 +5,7 @@ use Rattle.rk_model.specs.declared.op.Op.{Op}
 use Rattle.rk_batch.specs.Encoding.{batch_bytes}
 use Rattle.rk_batch.specs.Checks.{IsOp}
 
-pub record IsKept (ops : List Op) (size : ℕ) : Type 0 where
+pub record IsBatch (ops : List Op) (size : ℕ) : Type 0 where
   pub each : All IsOp ops
   pub few : length ops ≤ 1000
   pub size_is : size ≡ length (batch_bytes ops)

@@ -15,9 +15,9 @@ None >>= f = None
 (Some x) >>= f = f x
 
 -- what a function answered, seen by view, is what reading gives
-abbrev pub Reads : {X Y : Type 0} → (X → Y) → Option X → Option Y → Type 0
-Reads view None read = read ≡ None
-Reads view (Some x) read = read ≡ Some (view x)
+abbrev pub GivesAs : {X Y : Type 0} → (X → Y) → Option X → Option Y → Type 0
+GivesAs view None read = read ≡ None
+GivesAs view (Some x) read = read ≡ Some (view x)
 
 -- so many bytes, and the bytes after them
 abbrev pub cut : ℕ → List ℕ → Option (List ℕ × List ℕ)

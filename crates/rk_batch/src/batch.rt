@@ -35,13 +35,13 @@ pub struct Batch {
 impl Model for Batch {
     ghost use Rattle.std.specs.Prelude.{List};
     ghost use Rattle.rk_model.specs.declared.op.Op.{Op};
-    ghost use Rattle.rk_batch.specs.Kept.{IsKept};
+    ghost use Rattle.rk_batch.specs.Kept.{IsBatch};
 
     ghost Value = { List Op };
 
     ghost view = { λ batch. batch.ops.items };
 
-    ghost invariant = { λ batch. IsKept batch.ops.items batch.size };
+    ghost invariant = { λ batch. IsBatch batch.ops.items batch.size };
 }
 
 impl Batch {

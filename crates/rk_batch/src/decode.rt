@@ -4,7 +4,7 @@ ghost use Rattle.rk_model.specs.declared.op.Op.{Op as AnOp};
 ghost use Rattle.rk_batch.specs.Encoding.{op_bytes, batch_bytes};
 ghost use Rattle.rk_batch.specs.Checks.{AllPass, IsRefusal, checks};
 ghost use Rattle.rk_batch.specs.Grammar.{IsBatchOf, IsDecodeRefusal};
-ghost use Rattle.rk_batch.specs.Reading.{Reads, TakesNext, op_of, head_at};
+ghost use Rattle.rk_batch.specs.Reading.{GivesAs, TakesNext, op_of, head_at};
 
 use crate::batch::MAX_OPS;
 use crate::kinds::VERSION;
@@ -94,7 +94,7 @@ impl Batch {
 /// The count in the head, and the bytes after the head.
 #[tactic(auto, unfolding(crate::specs::Reading::counted_at))]
 fn head_at(bytes: &[u8]) -> Option<(u16, &[u8])>
-    ensures { Reads (λ x. (x.0, x.1.now)) result (head_at bytes.now) }
+    ensures { GivesAs (λ x. (x.0, x.1.now)) result (head_at bytes.now) }
 {
     let (version, rest) = bytes.split_first()?;
     if *version != VERSION {

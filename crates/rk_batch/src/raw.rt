@@ -1,6 +1,6 @@
 // Operations read from bytes, before their parts are tested.
 ghost use Rattle.std.specs.Prelude.{◌≡◌};
-ghost use Rattle.rk_batch.specs.Reading.{Reads, op_of, cut, short_at, number_at, long_at, put_at, del_at, range_set_at, range_unset_at, range_del_at, fields_at, op_at};
+ghost use Rattle.rk_batch.specs.Reading.{GivesAs, op_of, cut, short_at, number_at, long_at, put_at, del_at, range_set_at, range_unset_at, range_del_at, fields_at, op_at};
 
 use crate::kinds::{DEL, PUT, RANGE_DEL, RANGE_SET, RANGE_UNSET};
 use byteorder::{BigEndian, ByteOrder};
@@ -33,7 +33,7 @@ pub(crate) enum RawOp<'a> {
 
 /// The operation at the front, and the bytes after it.
 pub(crate) fn op_at(bytes: &[u8]) -> Option<(RawOp<'_>, &[u8])>
-    ensures { Reads (λ x. (op_of x.0, x.1.now)) result (op_at bytes.now) }
+    ensures { GivesAs (λ x. (op_of x.0, x.1.now)) result (op_at bytes.now) }
 {
     let (kind, rest) = bytes.split_first()?;
     fields_at(*kind, rest)
@@ -42,7 +42,7 @@ pub(crate) fn op_at(bytes: &[u8]) -> Option<(RawOp<'_>, &[u8])>
 /// The operation of a kind.
 #[tactic(auto, unfolding(crate::specs::Reading::fields_at))]
 fn fields_at(kind: u8, bytes: &[u8]) -> Option<(RawOp<'_>, &[u8])>
-    ensures { Reads (λ x. (op_of x.0, x.1.now)) result (fields_at kind bytes.now) }
+    ensures { GivesAs (λ x. (op_of x.0, x.1.now)) result (fields_at kind bytes.now) }
 {
     match kind {
         PUT => put_at(bytes),
@@ -56,7 +56,7 @@ fn fields_at(kind: u8, bytes: &[u8]) -> Option<(RawOp<'_>, &[u8])>
 
 #[tactic(auto, unfolding(crate::specs::Reading::put_at))]
 fn put_at(bytes: &[u8]) -> Option<(RawOp<'_>, &[u8])>
-    ensures { Reads (λ x. (op_of x.0, x.1.now)) result (put_at bytes.now) }
+    ensures { GivesAs (λ x. (op_of x.0, x.1.now)) result (put_at bytes.now) }
 {
     let (key, rest) = short_at(bytes)?;
     let (value, rest) = long_at(rest)?;
@@ -65,7 +65,7 @@ fn put_at(bytes: &[u8]) -> Option<(RawOp<'_>, &[u8])>
 
 #[tactic(auto, unfolding(crate::specs::Reading::del_at))]
 fn del_at(bytes: &[u8]) -> Option<(RawOp<'_>, &[u8])>
-    ensures { Reads (λ x. (op_of x.0, x.1.now)) result (del_at bytes.now) }
+    ensures { GivesAs (λ x. (op_of x.0, x.1.now)) result (del_at bytes.now) }
 {
     let (key, rest) = short_at(bytes)?;
     Some((RawOp::Del { key }, rest))
@@ -73,7 +73,7 @@ fn del_at(bytes: &[u8]) -> Option<(RawOp<'_>, &[u8])>
 
 #[tactic(auto, unfolding(crate::specs::Reading::range_set_at))]
 fn range_set_at(bytes: &[u8]) -> Option<(RawOp<'_>, &[u8])>
-    ensures { Reads (λ x. (op_of x.0, x.1.now)) result (range_set_at bytes.now) }
+    ensures { GivesAs (λ x. (op_of x.0, x.1.now)) result (range_set_at bytes.now) }
 {
     let (start, rest) = short_at(bytes)?;
     let (end, rest) = short_at(rest)?;
@@ -90,7 +90,7 @@ fn range_set_at(bytes: &[u8]) -> Option<(RawOp<'_>, &[u8])>
 
 #[tactic(auto, unfolding(crate::specs::Reading::range_unset_at))]
 fn range_unset_at(bytes: &[u8]) -> Option<(RawOp<'_>, &[u8])>
-    ensures { Reads (λ x. (op_of x.0, x.1.now)) result (range_unset_at bytes.now) }
+    ensures { GivesAs (λ x. (op_of x.0, x.1.now)) result (range_unset_at bytes.now) }
 {
     let (start, rest) = short_at(bytes)?;
     let (end, rest) = short_at(rest)?;
@@ -100,7 +100,7 @@ fn range_unset_at(bytes: &[u8]) -> Option<(RawOp<'_>, &[u8])>
 
 #[tactic(auto, unfolding(crate::specs::Reading::range_del_at))]
 fn range_del_at(bytes: &[u8]) -> Option<(RawOp<'_>, &[u8])>
-    ensures { Reads (λ x. (op_of x.0, x.1.now)) result (range_del_at bytes.now) }
+    ensures { GivesAs (λ x. (op_of x.0, x.1.now)) result (range_del_at bytes.now) }
 {
     let (start, rest) = short_at(bytes)?;
     let (end, rest) = short_at(rest)?;
@@ -109,7 +109,7 @@ fn range_del_at(bytes: &[u8]) -> Option<(RawOp<'_>, &[u8])>
 
 /// The bytes behind a length of one byte, and those after them.
 fn short_at(bytes: &[u8]) -> Option<(&[u8], &[u8])>
-    ensures { Reads (λ x. (x.0.now, x.1.now)) result (short_at bytes.now) }
+    ensures { GivesAs (λ x. (x.0.now, x.1.now)) result (short_at bytes.now) }
 {
     let (len, rest) = bytes.split_first()?;
     cut(rest, usize::from(*len))
@@ -118,7 +118,7 @@ fn short_at(bytes: &[u8]) -> Option<(&[u8], &[u8])>
 /// The bytes behind a length of two bytes, and those after them.
 #[tactic(auto, unfolding(crate::specs::Reading::long_at))]
 fn long_at(bytes: &[u8]) -> Option<(&[u8], &[u8])>
-    ensures { Reads (λ x. (x.0.now, x.1.now)) result (long_at bytes.now) }
+    ensures { GivesAs (λ x. (x.0.now, x.1.now)) result (long_at bytes.now) }
 {
     let (len, rest) = number_at(bytes)?;
     cut(rest, usize::from(len))
@@ -126,7 +126,7 @@ fn long_at(bytes: &[u8]) -> Option<(&[u8], &[u8])>
 
 /// The number in two bytes, and the bytes after it.
 pub(crate) fn number_at(bytes: &[u8]) -> Option<(u16, &[u8])>
-    ensures { Reads (λ x. (x.0, x.1.now)) result (number_at bytes.now) }
+    ensures { GivesAs (λ x. (x.0, x.1.now)) result (number_at bytes.now) }
 {
     if bytes.len() < 2 {
         return None;
@@ -136,7 +136,7 @@ pub(crate) fn number_at(bytes: &[u8]) -> Option<(u16, &[u8])>
 
 /// So many bytes, and those after them.
 fn cut(bytes: &[u8], len: usize) -> Option<(&[u8], &[u8])>
-    ensures { Reads (λ x. (x.0.now, x.1.now)) result (cut len bytes.now) }
+    ensures { GivesAs (λ x. (x.0.now, x.1.now)) result (cut len bytes.now) }
 {
     if bytes.len() < len {
         return None;

@@ -7,3 +7,4 @@ pub mod Parts
 pub mod Falling
 pub mod Sound
 mod Examples
+pub mod Keyed

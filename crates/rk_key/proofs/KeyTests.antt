@@ -1,5 +1,5 @@
 -- The tests of keys and suffixes answer as what they test.
-use Rattle.std.proofs.Common.{ℕ, ◌^◌, ◌≤◌, leb, List, [], ◌∷◌, length, All, Decides, refl, arith}
+use Rattle.std.proofs.Common.{◌≡◌, true, ℕ, ◌^◌, ◌≤◌, leb, List, [], ◌∷◌, length, All, Decides, refl, arith}
 use Rattle.std.specs.List.{list_all}
 use Rattle.std.proofs.lemmas.Bool.{false≢true}
 use Rattle.std.proofs.lemmas.Bool.Decides.{nat_tests, Decides-and, Decides-eqb, Decides-ltb, Decides-like, Decides-by_and}
@@ -27,3 +27,10 @@ pub is_key-Decides : (bytes : List ℕ) → Decides (is_key bytes) (IsKey bytes)
 is_key-Decides bytes =
     Decides-like _ (λ h. record { some = h.0.0; few = h.0.1; suffix = h.1 }) (λ h. ((h.some, h.few), h.suffix))
     (Decides-and _ _ (Decides-and _ _ (Decides-leb 1 (length (prefix bytes))) (Decides-leb (length (prefix bytes)) 200)) (is_suffix-Decides (suffix bytes)))
+
+-- keys by their test
+pub key_by_test : (bytes : List ℕ) → is_key bytes ≡ true → IsKey bytes
+key_by_test bytes e = (is_key-Decides bytes).0 e
+
+pub key_tested : (bytes : List ℕ) → IsKey bytes → is_key bytes ≡ true
+key_tested bytes k = (is_key-Decides bytes).1 k

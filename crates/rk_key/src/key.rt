@@ -62,6 +62,7 @@ impl UserKey {
     /// [`KeyError::Memory`] where there is no memory for the bytes.
     pub fn copy(&self) -> Result<UserKey, KeyError>
         ensures ok { IfOk result (λ key. key ≡ self.now) }
+        ensures is_key { IsKey self.now }
         ensures only_memory { IfErr result (λ error. error ≡ KeyError.Memory) }
         ensures short { length self.now ≤ 32 → IsOk result }
     {
@@ -69,6 +70,21 @@ impl UserKey {
         Ok(UserKey {
             bytes: SmallVec::from_slice(alloc, self.bytes())?,
         })
+    }
+
+    /// An equal key, in the memory of an old one.
+    ///
+    /// # Errors
+    ///
+    /// [`KeyError::Memory`] where that is too little and there is no more. The old one is gone.
+    pub fn copy_into(&self, old: UserKey) -> Result<UserKey, KeyError>
+        ensures ok { IfOk result (λ key. key ≡ self.now) }
+        ensures only_memory { IfErr result (λ error. error ≡ KeyError.Memory) }
+    {
+        let mut bytes = old.bytes;
+        bytes.clear();
+        bytes.extend_from_slice(self.bytes())?;
+        Ok(UserKey { bytes })
     }
 }
 

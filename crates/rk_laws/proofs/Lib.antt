@@ -14,3 +14,4 @@ pub mod Alike
 pub mod Unmasked
 pub mod Pairs
 pub mod After
+pub mod Fronts

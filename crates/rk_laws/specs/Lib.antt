@@ -5,3 +5,4 @@ pub mod SameCells
 pub mod KeptCells
 pub mod SameEntries
 pub mod Masks
+pub mod Parts

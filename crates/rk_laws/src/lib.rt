@@ -3,7 +3,8 @@
 //! Its main law: two lists of entries with the same covers and points at the keys within an iterator's bounds
 //! give the same positions, reports and moves ([`an_iterator_shows_the_cells_alone`]). The other laws say when
 //! covers and points are the same: in any order of the entries, cut at any keys, without entries that
-//! newer ones shadow, and at a key's prefix. And they say where spans begin and end.
+//! newer ones shadow, and at a key's prefix. And they say where spans begin and end, and what entries a history
+//! has up to the end of a commit.
 //!
 //! Each law is a statement of `specs/` and a lemma of `proofs/`, which crates above cite, and the contract of a
 //! function here that has nothing to do. [`apply`] computes the cover after one more operation.
@@ -13,6 +14,7 @@ mod kept_cells;
 mod masks;
 mod neighbours;
 mod newer;
+mod parts;
 mod prefixes;
 mod same_cells;
 mod same_entries;
@@ -33,6 +35,7 @@ pub use newer::{
     apply, cover_after_an_entry_is_that_of_the_cover_before,
     point_after_an_entry_is_that_of_the_point_before,
 };
+pub use parts::each_end_of_a_commit_has_its_part;
 pub use prefixes::{
     cover_of_a_key_is_that_of_its_prefix, cover_of_a_key_is_that_of_spans,
     point_of_a_key_is_that_of_its_own_points, spans_over_a_key_are_those_over_its_prefix,

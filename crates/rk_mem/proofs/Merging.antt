@@ -8,14 +8,16 @@ use Rattle.std.proofs.lemmas.Bool.{and_parts}
 use Rattle.std.proofs.lemmas.List.{append_assoc, drop_more, drop_all}
 use Rattle.std.proofs.lemmas.List.Sorted.{IsPermutation-refl, IsPermutation-trans, IsPermutation-cons, IsPermutation-middle}
 use Rattle.rk_key.proofs.TotalOrders.{lt_trans}
+use Rattle.rk_model.proofs.Orders.{entry_total}
 use Rattle.rk_model.specs.Covers.{is_point}
-use Rattle.rk_model.specs.Sources.{ascends, count_before, entry_cmp, are_points}
+use Rattle.rk_model.specs.Cuts.{count_before}
+use Rattle.rk_model.specs.Sources.{ascends, entry_cmp, are_points}
 use Rattle.rk_model.specs.declared.op.Entry.{Entry}
 use Rattle.rk_model.proofs.Lists.{all_weaker}
 use Rattle.rk_mem.specs.Chunks.{AreNewer}
 use Rattle.rk_mem.specs.Memory.{EachTwo}
 use Rattle.rk_mem.proofs.Split.{all_true}
-use Rattle.rk_mem.proofs.Sorting.{precedes, entry_total, less}
+use Rattle.rk_mem.proofs.Sorting.{precedes, less}
 
 -- the items of the first list, each behind those of the second that stand before it
 abbrev pub into : Entry → (List Entry → List Entry) → List Entry → List Entry

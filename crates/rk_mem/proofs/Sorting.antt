@@ -9,6 +9,7 @@ use Rattle.std.proofs.lemmas.Cmp.{then_total, on_total, back_total, nat_cmp_tota
 use Rattle.std.proofs.lemmas.List.Sorted.{ranks_by, All-permutation, sum_by-IsPermutation}
 use Rattle.std.proofs.lemmas.List.Elements.{filter_passes}
 use Rattle.std.proofs.lemmas.List.Sums.{list_all-from_AllPass}
+use Rattle.rk_model.proofs.Orders.{entry_total}
 use Rattle.rk_model.specs.Operations.{NumbersDiffer}
 use Rattle.rk_key.specs.Keys.{key_cmp}
 use Rattle.rk_key.specs.Laws.{key_cmp-total}
@@ -17,9 +18,6 @@ use Rattle.rk_model.specs.Sources.{ascends, op_key, entry_cmp, are_points}
 use Rattle.rk_model.specs.declared.op.Entry.{Entry}
 use Rattle.rk_mem.specs.Chunks.{points_of}
 use Rattle.rk_mem.proofs.Numbers.{has_number, count, count_is, counted, one_with}
-
-pub entry_total : IsTotalOrder entry_cmp
-entry_total = then_total (on_total (λ e. op_key e.op) key_cmp-total) (on_total (λ e. e.seq) (back_total nat_cmp_total))
 
 abbrev pub precedes : Entry → Entry → Bool
 precedes e f = is_lt (entry_cmp e f)

@@ -7,20 +7,25 @@ use Rattle.std.specs.Ordering.{is_lt}
 use Rattle.std.proofs.lemmas.Bool.{and_parts, not-true}
 use Rattle.std.proofs.lemmas.List.{append-nil}
 use Rattle.std.proofs.lemmas.List.Elements.{filter-append}
-use Rattle.std.proofs.lemmas.List.Sorted.{IsPermutation-refl, IsPermutation-trans, IsPermutation-append, IsPermutation-filter_both}
+use Rattle.std.proofs.lemmas.List.Sorted.{IsPermutation-refl, IsPermutation-trans, IsPermutation-append, IsPermutation-filter_both, All-permutation}
+use Rattle.std.proofs.lemmas.List.Folds.{list_all-append}
+use Rattle.std.proofs.lemmas.List.Sums.{AllPass-from_list_all, list_all-from_AllPass}
 use Rattle.rk_model.proofs.Members.{among_all, all_among, among_append, filter_among}
 use Rattle.rk_model.proofs.Numbers.{some_differ}
 use Rattle.rk_model.specs.Operations.{is_over, NumbersDiffer}
 use Rattle.rk_model.specs.Covers.{is_point, over}
 use Rattle.rk_model.specs.Spans.{op_ends, sorted_keys}
-use Rattle.rk_model.specs.Sources.{ascends, entry_cmp, are_points, are_spans, sound_spans}
+use Rattle.rk_key.specs.KeyTests.{is_key}
+use Rattle.rk_model.specs.Items.{has_keys, are_keyed, keyed_points, keyed_spans, sound}
+use Rattle.rk_model.specs.Sources.{ascends, entry_cmp, op_key, are_points, are_spans}
 use Rattle.rk_model.specs.declared.op.Op.{Op}
 use Rattle.rk_model.specs.declared.op.Op.TheVariants.{Put, Del, RangeSet, RangeUnset, RangeDel}
 use Rattle.rk_model.specs.declared.op.Entry.{Entry}
 use Rattle.rk_model.specs.declared.span.RangeKey.{RangeKey}
 use Rattle.rk_fragment.specs.Fragments.{range_key, newest_first, span_with, fragments}
 use Rattle.rk_model.proofs.Lists.{all_weaker, all_pass, filter_all, filter_none}
-use Rattle.rk_fragment.proofs.Sound.{sound}
+use Rattle.rk_fragment.proofs.Sound.{sound as sound_spans}
+use Rattle.rk_fragment.proofs.Keyed.{fragments_keyed}
 use Rattle.rk_mem.specs.Chunks.{points_of, ranges_of, NumbersRise, AreNewer, IsChunkOf}
 use Rattle.rk_mem.specs.SortedOut.{AreSortedOut}
 use Rattle.rk_mem.proofs.Numbers.{rising_differ}
@@ -56,8 +61,20 @@ ranges_inside points ranges chunk out is = ap ranges_of (sym is) ∙ ranges_are 
 no_points_in : (es : List Entry) → AllByRecursion (λ e. is_point e.op ≡ false) (ranges_of es)
 no_points_in es = all_weaker (λ e. not (is_point e.op) ≡ true) (λ e. is_point e.op ≡ false) (λ e h. not-true (is_point e.op) h) (ranges_of es) (all_pass (λ e. not (is_point e.op)) es)
 
-pub sorted_out : (es points : List Entry) → NumbersRise es → IsTrue (are_points points) → AreSortedOut points (ranges_of es)
-sorted_out es points rise order = record { in_order = order; no_points = no_points_in es; differ = some_differ (λ e. not (is_point e.op)) es (rising_differ es rise) }
+-- where two lists have keys, so have both together, in any order
+pub keyed_append : (xs ys : List Entry) → IsTrue (are_keyed xs) → IsTrue (are_keyed ys) → IsTrue (are_keyed (xs ++ ys))
+keyed_append xs ys one two = rw (list_all-append (λ e. has_keys e.op) xs ys, one, two) refl
+
+pub keyed_permuted : (xs ys : List Entry) → IsPermutation xs ys → IsTrue (are_keyed xs) → IsTrue (are_keyed ys)
+keyed_permuted xs ys same keyed = list_all-from_AllPass (λ e. has_keys e.op) ys (All-permutation (λ e. has_keys e.op ≡ true) xs ys same (AllPass-from_list_all (λ e. has_keys e.op) xs keyed))
+
+pub sorted_out : (es points : List Entry) → NumbersRise es → IsTrue (are_points points) → IsPermutation (points_of es) points → IsTrue (are_keyed (points_of es)) → IsTrue (are_keyed (ranges_of es)) → AreSortedOut points (ranges_of es)
+sorted_out es points rise order same keyed keyed' = record {
+  in_order = order;
+  no_points = no_points_in es;
+  differ = some_differ (λ e. not (is_point e.op)) es (rising_differ es rise);
+  keyed = keyed_append points (ranges_of es) (keyed_permuted (points_of es) points same keyed) keyed';
+}
 
 pub chunk_is : (es points : List Entry) → IsPermutation (points_of es) points → IsTrue (are_points points) → IsChunkOf es (points ++ ranges_of es)
 chunk_is es points same order =
@@ -81,20 +98,21 @@ differ_append [] new d d' newer = d'
 differ_append (e ∷ old) new d d' newer =
     (all_among (λ f. f.seq ≢ e.seq) (old ++ new) (λ f at. elim (among_append old new f at) [ inl m ↦ among_all (λ g. g.seq ≢ e.seq) old f d.0 m | inr m ↦ (let less : e.seq < f.seq = newer e f (inl refl) m in λ same. absurd (omega arith)) ]), differ_append old new d.1 d' (λ g f at_g at_f. newer g f (inr at_g) at_f))
 
-module _ (old new : List Entry) (newer : AreNewer old new) where
-  pub merged_sorted_out : (points : List Entry) → IsTrue (are_points points) → NumbersDiffer (ranges_of old) → NumbersDiffer (ranges_of new) → AreSortedOut points (ranges_of old ++ ranges_of new)
-  merged_sorted_out points order d d' = record {
-    in_order = order;
-    no_points = rw (← filter-append (λ e. not (is_point e.op)) old new) (no_points_in (old ++ new));
-    differ = differ_append (ranges_of old) (ranges_of new) d d' (filter_newer (λ e. not (is_point e.op)) (λ e. not (is_point e.op)) old new newer);
-  }
-
 pub merged_is : (old new points : List Entry) → IsPermutation (points_of old ++ points_of new) points → IsTrue (are_points points) → IsChunkOf (old ++ new) (points ++ (ranges_of old ++ ranges_of new))
 merged_is old new points same order =
     let here : IsPermutation (points_of (old ++ new)) points = rw (filter-append (λ e. is_point e.op) old new) same in
     let chunk : IsChunkOf (old ++ new) (points ++ ranges_of (old ++ new)) = chunk_is (old ++ new) points here order in
     let joined : ranges_of (old ++ new) ≡ ranges_of old ++ ranges_of new = filter-append (λ e. not (is_point e.op)) old new in
     subst (λ rs. IsChunkOf (old ++ new) (points ++ rs)) joined chunk
+
+module _ (old new : List Entry) (newer : AreNewer old new) where
+  pub merged_sorted_out : (points : List Entry) → IsTrue (are_points points) → NumbersDiffer (ranges_of old) → NumbersDiffer (ranges_of new) → IsChunkOf (old ++ new) (points ++ (ranges_of old ++ ranges_of new)) → IsTrue (are_keyed old) → IsTrue (are_keyed new) → AreSortedOut points (ranges_of old ++ ranges_of new)
+  merged_sorted_out points order d d' chunk keyed keyed' = record {
+    in_order = order;
+    no_points = rw (← filter-append (λ e. not (is_point e.op)) old new) (no_points_in (old ++ new));
+    differ = differ_append (ranges_of old) (ranges_of new) d d' (filter_newer (λ e. not (is_point e.op)) (λ e. not (is_point e.op)) old new newer);
+    keyed = keyed_permuted (old ++ new) (points ++ (ranges_of old ++ ranges_of new)) chunk.same (keyed_append old new keyed keyed');
+  }
 
 -- Points make no spans.
 point_has_no_ends : (op : Op) → is_point op ≡ true → op_ends op ≡ []
@@ -141,8 +159,20 @@ pub fragments_of_ranges : (es : List Entry) → fragments (ranges_of es) ≡ fra
 fragments_of_ranges es =
     (λ i. let ends = sorted_keys (ends_of_ranges es i) in filter_map (λ ab. span_with ab.0 ab.1 (newest_first (keys_of_ranges es ab.0 i))) (zip ends (drop 1 ends)))
 
-pub sound_fragments : (es : List Entry) → NumbersDiffer (ranges_of es) → sound_spans (fragments es) ≡ Some (fragments es)
-sound_fragments es differ =
-    let sound_ranges : are_spans (fragments (ranges_of es)) ≡ true = sound (ranges_of es) differ in
+pub sound_fragments : (es : List Entry) → NumbersDiffer (ranges_of es) → IsTrue (are_keyed es) → sound keyed_spans (fragments es) ≡ Some (fragments es)
+sound_fragments es differ keyed =
+    let sound_ranges : are_spans (fragments (ranges_of es)) ≡ true = sound_spans (ranges_of es) differ in
     let sound_all : are_spans (fragments es) ≡ true = ap are_spans (sym (fragments_of_ranges es)) ∙ sound_ranges in
-    rw sound_all refl
+    rw (sound_all, fragments_keyed es keyed) refl
+
+-- the points of keyed entries
+op_keyed : (es : List Entry) → are_keyed es ≡ true → list_all (λ e. is_key (op_key e.op)) (points_of es) ≡ true
+op_keyed [] h = refl
+op_keyed (e ∷ es) h = let parts = and_parts (has_keys e.op) (are_keyed es) h in go (is_point e.op) (and_parts (is_key (op_key e.op)) (list_all is_key (op_ends e.op)) parts.0).0 (op_keyed es parts.1)
+  where
+    go : (b : Bool) → is_key (op_key e.op) ≡ true → list_all (λ e. is_key (op_key e.op)) (points_of es) ≡ true → list_all (λ e. is_key (op_key e.op)) (cond b (e ∷ points_of es) (points_of es)) ≡ true
+    go true k ih = rw (k, ih) refl
+    go false k ih = ih
+
+pub sound_points : (es : List Entry) → IsTrue (are_points (points_of es)) → IsTrue (are_keyed es) → sound keyed_points (points_of es) ≡ Some (points_of es)
+sound_points es in_order keyed = rw (in_order, op_keyed es keyed) refl

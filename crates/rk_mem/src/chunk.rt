@@ -2,7 +2,8 @@
 ghost use Rattle.std.specs.Prelude.{◌≡◌, ◌++◌, length, Some, IfOk, IsTrue};
 ghost use Rattle.std.specs.Arc.{arc_value};
 ghost use Rattle.rk_model.specs.Operations.{NumbersDiffer};
-ghost use Rattle.rk_model.specs.Sources.{are_points, sound_spans};
+ghost use Rattle.rk_model.specs.Items.{are_keyed, keyed_spans, sound};
+ghost use Rattle.rk_model.specs.Sources.{are_points};
 ghost use Rattle.rk_fragment.specs.Fragments.{fragments};
 ghost use Rattle.rk_mem.specs.Chunks.{NumbersRise, AreNewer, points_of, ranges_of, IsChunkOf};
 ghost use Rattle.rk_mem.specs.SortedOut.{AreSortedOut};
@@ -79,6 +80,7 @@ impl Chunk {
     pub(crate) fn points(&self) -> &[Entry]
         ensures value { result.now ≡ points_of self.now }
         ensures in_order { IsTrue (are_points (points_of self.now)) }
+        ensures keyed { IsTrue (are_keyed self.now) }
     {
         &self.points
     }
@@ -95,7 +97,7 @@ impl Chunk {
     /// The spans that the range entries are cut into. Where nobody has made them yet, they are made, and kept.
     pub(crate) fn fragments(&self, alloc: Global) -> Result<Arc<Fragments>, NoMemory>
         ensures value { IfOk result (λ spans. arc_value spans ≡ fragments self.now) }
-        ensures sound { IfOk result (λ _. sound_spans (fragments self.now) ≡ Some (fragments self.now)) }
+        ensures sound { IfOk result (λ _. sound keyed_spans (fragments self.now) ≡ Some (fragments self.now)) }
     {
         fragments_of(alloc, &self.ranges)
     }

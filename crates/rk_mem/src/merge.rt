@@ -2,7 +2,8 @@
 ghost use Rattle.std.specs.Prelude.{◌≡◌, ◌≤◌, ◌++◌, length, IfOk, OnOk, IsTrue};
 ghost use Rattle.std.specs.Ordering.{is_lt};
 ghost use Rattle.std.specs.List.Sorted.{IsPermutation};
-ghost use Rattle.rk_model.specs.Sources.{are_points, count_before, entry_cmp};
+ghost use Rattle.rk_model.specs.Cuts.{count_before};
+ghost use Rattle.rk_model.specs.Sources.{are_points, entry_cmp};
 ghost use Rattle.rk_mem.specs.Chunks.{AreNewer};
 
 use rk_model::{Entry, compare_entries};

@@ -2,6 +2,7 @@
 ghost use Rattle.std.specs.Prelude.{◌≡◌, IfOk, OnOk, IsTrue};
 ghost use Rattle.std.specs.List.Sorted.{IsPermutation};
 ghost use Rattle.rk_model.specs.Operations.{NumbersDiffer};
+ghost use Rattle.rk_model.specs.Items.{are_keyed};
 ghost use Rattle.rk_model.specs.Sources.{are_points};
 ghost use Rattle.rk_mem.specs.Chunks.{points_of, ranges_of};
 
@@ -11,7 +12,8 @@ use std::alloc::Global;
 
 /// Copies of the points.
 pub(crate) fn copy_points(alloc: Global, entries: &[Entry]) -> Result<Vec<Entry>, NoMemory>
-    ensures { IfOk result (λ points. points.items ≡ points_of entries.now) }
+    ensures value { IfOk result (λ points. points.items ≡ points_of entries.now) }
+    ensures keyed { IfOk result (λ points. IsTrue (are_keyed points.items)) }
 {
     let mut points = Vec::new(alloc);
     for entry in entries {
@@ -24,7 +26,8 @@ pub(crate) fn copy_points(alloc: Global, entries: &[Entry]) -> Result<Vec<Entry>
 
 /// Copies of the range entries.
 pub(crate) fn copy_ranges(alloc: Global, entries: &[Entry]) -> Result<Vec<Entry>, NoMemory>
-    ensures { IfOk result (λ ranges. ranges.items ≡ ranges_of entries.now) }
+    ensures value { IfOk result (λ ranges. ranges.items ≡ ranges_of entries.now) }
+    ensures keyed { IfOk result (λ ranges. IsTrue (are_keyed ranges.items)) }
 {
     let mut ranges = Vec::new(alloc);
     for entry in entries {

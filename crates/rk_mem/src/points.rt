@@ -1,85 +1,112 @@
 // A source of the points of a chunk.
-ghost use Rattle.std.specs.Prelude.{◌≡◌, length, Some, None, IfOk};
+ghost use Rattle.std.specs.Prelude.{◌≡◌, IsTrue, Some, None, true, IfOk};
 ghost use Rattle.std.specs.Arc.{arc_value};
-ghost use Rattle.rk_model.specs.Sources.{Seen, in_memory, sound_points};
-ghost use Rattle.rk_model.specs.SourceLaws.{sound_points-sorted, in_memory-bounded};
+ghost use Rattle.rk_model.specs.Items.{keyed_points, sound};
+ghost use Rattle.rk_model.specs.Standings.{free_listing};
+ghost use Rattle.rk_model.specs.Listings.{stands_within};
+ghost use Rattle.rk_model.specs.ListingLaws.{of_sound, listed-told, listed-rise, listed-free};
 ghost use Rattle.rk_mem.specs.Chunks.{points_of};
 
 use crate::Chunk;
 use rk_key::UserKey;
-use rk_model::{Entry, PointList, PointSource, before_cut, behind_cut, point_ge, point_lt};
+use rk_model::{Cut, Entry, Lends, Listed, Sorted, Source};
 use rk_outside::{Counting, NoMemory, SourceError};
 use std::alloc::Global;
 use std::marker::Model;
 use std::sync::Arc;
 
-/// A source of the points of a chunk, in order. It reads nothing.
+// A chunk that lends its points.
 #[derive(Debug, Drop)]
-pub struct ChunkPoints {
+struct Points {
     chunk: Arc<Chunk>,
-    place: Option<usize>,
 }
 
-impl Model for ChunkPoints {
+impl Model for Points {
+    ghost use Rattle.std.specs.Prelude.{List};
     ghost use Rattle.std.specs.Arc.{arc_value};
-    ghost use Rattle.rk_model.specs.Sources.{Placed, IsAmongThem};
     ghost use Rattle.rk_model.specs.declared.op.Entry.{Entry};
     ghost use Rattle.rk_mem.specs.Chunks.{points_of};
 
-    ghost Value = { Placed Entry };
+    ghost Value = { List Entry };
 
-    ghost view = { λ s. record { items = points_of (arc_value s.chunk); place = s.place } };
+    ghost view = { λ s. points_of (arc_value s.chunk) };
+}
 
-    ghost invariant = { λ s. IsAmongThem (record { items = points_of (arc_value s.chunk); place = s.place }) };
+impl Lends for Points {
+    type Item = Entry;
+
+    ghost items = { λ es. es };
+
+    fn items(&self) -> &[Entry] {
+        self.chunk.points()
+    }
+}
+
+/// A source of the points of a chunk, in order. It reads nothing.
+#[derive(Debug, Drop)]
+pub struct ChunkPoints {
+    listed: Listed<Points>,
+}
+
+impl Model for ChunkPoints {
+    ghost use Rattle.std.specs.Prelude.{List};
+    ghost use Rattle.rk_model.specs.Listings.{Placing};
+    ghost use Rattle.rk_model.specs.declared.op.Entry.{Entry};
+
+    ghost Value = { Placing (List Entry) };
+
+    ghost view = { λ s. s.listed };
 }
 
 impl ChunkPoints {
-    /// A source of the points of this chunk, at no place. It takes no memory.
+    /// A source of the points of this chunk, at no gap. It takes no memory.
     ///
     /// # Errors
     ///
     /// None: `NoMemory` is there for a body that takes some.
     pub fn new(_: Global, chunk: Arc<Chunk>) -> Result<ChunkPoints, NoMemory>
-        ensures value { IfOk result (λ s. s ≡ record { items = points_of (arc_value chunk); place = None }) }
-        ensures told { IfOk result (λ s. sound_points s.items ≡ Some (points_of (arc_value chunk))) }
+        ensures value { IfOk result (λ s. s ≡ record { list = points_of (arc_value chunk); gap = None; forward = true }) }
+        ensures told { IfOk result (λ s. sound keyed_points s.list ≡ Some (points_of (arc_value chunk))) }
     {
         // That they are in order is what the chunk says when it lends them.
         let _points = chunk.points();
-        Ok(ChunkPoints { chunk, place: None })
+        Ok(ChunkPoints {
+            listed: Listed::new(Points { chunk }),
+        })
     }
 }
 
-impl PointList for ChunkPoints {
-    ghost seen = { λ s. in_memory (length s.items) (sound_points s.items) s.place };
+impl Sorted for ChunkPoints {
+    type Item = Entry;
+
+    ghost listing = { λ s. free_listing (sound keyed_points s.list) };
+
+    ghost standing = { λ s. stands_within s.list s.gap s.forward };
 }
 
-impl<R: Counting> PointSource<R> for ChunkPoints {
-    ghost sorted = { λ s. sound_points-sorted s.items };
+impl<R: Counting> Source<R> for ChunkPoints {
+    ghost ordered = { λ s. of_sound keyed_points s.list (λ xs. IsTrue (keyed_points xs)) (λ holds. holds) };
 
-    ghost bounded = { λ s. in_memory-bounded (length s.items) (sound_points s.items) s.place };
+    ghost told = { λ s. listed-told keyed_points s.list s.gap s.forward };
 
-    fn seek_ge(&mut self, _: &mut R, key: &UserKey) -> Result<(), SourceError> {
-        self.place = point_ge(self.chunk.points(), key);
-        Ok(())
+    ghost rise = { λ s. listed-rise (sound keyed_points s.list) };
+
+    ghost once = { λ s _. listed-free (sound keyed_points s.list) };
+
+    fn seek(
+        &mut self,
+        reader: &mut R,
+        cut: Cut<&UserKey>,
+        forward: bool,
+    ) -> Result<(), SourceError> {
+        self.listed.seek(reader, cut, forward)
     }
 
-    fn seek_lt(&mut self, _: &mut R, key: &UserKey) -> Result<(), SourceError> {
-        self.place = point_lt(self.chunk.points(), key);
-        Ok(())
-    }
-
-    fn next(&mut self, _: &mut R) -> Result<(), SourceError> {
-        let len = self.chunk.points().len();
-        self.place = self.place.and_then(|place| behind_cut(place + 1, len));
-        Ok(())
-    }
-
-    fn prev(&mut self, _: &mut R) -> Result<(), SourceError> {
-        self.place = self.place.and_then(|place| before_cut(place));
-        Ok(())
+    fn step(&mut self, reader: &mut R, forward: bool) -> Result<(), SourceError> {
+        self.listed.step(reader, forward)
     }
 
     fn here(&self) -> Option<&Entry> {
-        self.place.and_then(|place| self.chunk.points().get(place))
+        Source::<R>::here(&self.listed)
     }
 }

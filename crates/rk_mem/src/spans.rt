@@ -1,88 +1,112 @@
 // A source of the spans of a chunk.
-ghost use Rattle.std.specs.Prelude.{◌≡◌, length, Some, None, IfOk};
+ghost use Rattle.std.specs.Prelude.{◌≡◌, IsTrue, Some, None, true, IfOk};
 ghost use Rattle.std.specs.Arc.{arc_value};
-ghost use Rattle.rk_model.specs.Sources.{Seen, in_memory, sound_spans};
-ghost use Rattle.rk_model.specs.SourceLaws.{sound_spans-sorted, in_memory-bounded};
+ghost use Rattle.rk_model.specs.Items.{keyed_spans, sound};
+ghost use Rattle.rk_model.specs.Standings.{free_listing};
+ghost use Rattle.rk_model.specs.Listings.{stands_within};
+ghost use Rattle.rk_model.specs.ListingLaws.{of_sound, listed-told, listed-rise, listed-free};
 ghost use Rattle.rk_fragment.specs.Fragments.{fragments};
 
 use crate::Chunk;
 use crate::fragments::Fragments;
 use rk_key::UserKey;
-use rk_model::{Span, SpanList, SpanSource, before_cut, behind_cut, span_ge, span_lt};
+use rk_model::{Cut, Lends, Listed, Sorted, Source, Span};
 use rk_outside::{Counting, NoMemory, SourceError};
 use std::alloc::Global;
 use std::marker::Model;
 use std::sync::Arc;
 
+// Fragments that lend their spans.
+#[derive(Debug, Drop)]
+struct Spans {
+    fragments: Arc<Fragments>,
+}
+
+impl Model for Spans {
+    ghost use Rattle.std.specs.Prelude.{List};
+    ghost use Rattle.std.specs.Arc.{arc_value};
+    ghost use Rattle.rk_model.specs.declared.span.Span.{Span};
+
+    ghost Value = { List Span };
+
+    ghost view = { λ s. arc_value s.fragments };
+}
+
+impl Lends for Spans {
+    type Item = Span;
+
+    ghost items = { λ ss. ss };
+
+    fn items(&self) -> &[Span] {
+        &self.fragments.spans
+    }
+}
+
 /// A source of the spans that the range entries of a chunk are cut into. It reads nothing.
 #[derive(Debug, Drop)]
 pub struct ChunkSpans {
-    fragments: Arc<Fragments>,
-    place: Option<usize>,
+    listed: Listed<Spans>,
 }
 
 impl Model for ChunkSpans {
-    ghost use Rattle.std.specs.Arc.{arc_value};
-    ghost use Rattle.rk_model.specs.Sources.{Placed, IsAmongThem};
+    ghost use Rattle.std.specs.Prelude.{List};
+    ghost use Rattle.rk_model.specs.Listings.{Placing};
     ghost use Rattle.rk_model.specs.declared.span.Span.{Span};
 
-    ghost Value = { Placed Span };
+    ghost Value = { Placing (List Span) };
 
-    ghost view = { λ s. record { items = arc_value s.fragments; place = s.place } };
-
-    ghost invariant = { λ s. IsAmongThem (record { items = arc_value s.fragments; place = s.place }) };
+    ghost view = { λ s. s.listed };
 }
 
 impl ChunkSpans {
-    /// A source of the spans of this chunk, at no place. Where no other source over the chunk has made them, it
+    /// A source of the spans of this chunk, at no gap. Where no other source over the chunk has made them, it
     /// makes them, and the chunk keeps them.
     ///
     /// # Errors
     ///
     /// `NoMemory` where the spans find no memory.
     pub fn new(alloc: Global, chunk: Arc<Chunk>) -> Result<ChunkSpans, NoMemory>
-        ensures value { IfOk result (λ s. s ≡ record { items = fragments (arc_value chunk); place = None }) }
-        ensures told { IfOk result (λ s. sound_spans s.items ≡ Some (fragments (arc_value chunk))) }
+        ensures value { IfOk result (λ s. s ≡ record { list = fragments (arc_value chunk); gap = None; forward = true }) }
+        ensures told { IfOk result (λ s. sound keyed_spans s.list ≡ Some (fragments (arc_value chunk))) }
     {
         let fragments = chunk.fragments(alloc)?;
         Ok(ChunkSpans {
-            fragments,
-            place: None,
+            listed: Listed::new(Spans { fragments }),
         })
     }
 }
 
-impl SpanList for ChunkSpans {
-    ghost seen = { λ s. in_memory (length s.items) (sound_spans s.items) s.place };
+impl Sorted for ChunkSpans {
+    type Item = Span;
+
+    ghost listing = { λ s. free_listing (sound keyed_spans s.list) };
+
+    ghost standing = { λ s. stands_within s.list s.gap s.forward };
 }
 
-impl<R: Counting> SpanSource<R> for ChunkSpans {
-    ghost sorted = { λ s. sound_spans-sorted s.items };
+impl<R: Counting> Source<R> for ChunkSpans {
+    ghost ordered = { λ s. of_sound keyed_spans s.list (λ xs. IsTrue (keyed_spans xs)) (λ holds. holds) };
 
-    ghost bounded = { λ s. in_memory-bounded (length s.items) (sound_spans s.items) s.place };
+    ghost told = { λ s. listed-told keyed_spans s.list s.gap s.forward };
 
-    fn seek_ge(&mut self, _: &mut R, key: &UserKey) -> Result<(), SourceError> {
-        self.place = span_ge(&self.fragments.spans, key);
-        Ok(())
+    ghost rise = { λ s. listed-rise (sound keyed_spans s.list) };
+
+    ghost once = { λ s _. listed-free (sound keyed_spans s.list) };
+
+    fn seek(
+        &mut self,
+        reader: &mut R,
+        cut: Cut<&UserKey>,
+        forward: bool,
+    ) -> Result<(), SourceError> {
+        self.listed.seek(reader, cut, forward)
     }
 
-    fn seek_lt(&mut self, _: &mut R, key: &UserKey) -> Result<(), SourceError> {
-        self.place = span_lt(&self.fragments.spans, key);
-        Ok(())
-    }
-
-    fn next(&mut self, _: &mut R) -> Result<(), SourceError> {
-        let len = self.fragments.spans.len();
-        self.place = self.place.and_then(|place| behind_cut(place + 1, len));
-        Ok(())
-    }
-
-    fn prev(&mut self, _: &mut R) -> Result<(), SourceError> {
-        self.place = self.place.and_then(|place| before_cut(place));
-        Ok(())
+    fn step(&mut self, reader: &mut R, forward: bool) -> Result<(), SourceError> {
+        self.listed.step(reader, forward)
     }
 
     fn here(&self) -> Option<&Span> {
-        self.place.and_then(|place| self.fragments.spans.get(place))
+        Source::<R>::here(&self.listed)
     }
 }

@@ -57,9 +57,7 @@ impl MemReader {
 }
 
 impl Counting for MemReader {
-    ghost fault_count = { λ r. r.faults };
-
-    ghost read_count = { λ r. r.made };
+    ghost counts = { λ r. record { faults = r.faults; reads = r.made } };
 
     fn faults(&self) -> u64 {
         self.calls.faults()

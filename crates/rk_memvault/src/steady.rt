@@ -22,9 +22,7 @@ pub struct SteadyReader {
 }
 
 impl Counting for SteadyReader {
-    ghost fault_count = { λ _. 0 };
-
-    ghost read_count = { λ r. r.reads };
+    ghost counts = { λ r. record { faults = 0; reads = r.reads } };
 
     fn faults(&self) -> u64 {
         0

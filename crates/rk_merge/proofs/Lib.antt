@@ -1,8 +1,6 @@
-pub mod Several
 pub mod Lists
-pub mod Cuts
+pub mod Nears
+pub mod Counts
 pub mod Unions
 pub mod Merged
 pub mod Totals
-pub mod Loops
-pub mod Costs

@@ -1,5 +1,4 @@
 pub mod Unions
-pub mod Several
-pub mod Directions
+pub mod Pools
 pub mod Cuts
 pub mod Laws

@@ -8,6 +8,12 @@ pub mod Kept
 pub mod Named
 pub mod Plain
 pub mod Sources
-pub mod SourceLaws
 pub mod Reads
-pub mod Runs
+pub mod Cuts
+pub mod Items
+pub mod ItemLaws
+pub mod Standings
+pub mod Searches
+pub mod Histories
+pub mod Listings
+pub mod ListingLaws

@@ -74,7 +74,7 @@ abbrev pub value_of : List Entry → IterOptions → Cursor → Option (List ℕ
 value_of es o c = option_and_then (shown es o) (key_at c)
 
 -- the lists that are made once, and what the cursor reports
-pub record IsKept (es : List Entry) (o : IterOptions) (ends : List EndCover) (keys : List (List ℕ)) (c : Cursor) (value : Option (List ℕ)) (span : Option WidestSpan) : Type 0 where
+pub record IsPlain (es : List Entry) (o : IterOptions) (ends : List EndCover) (keys : List (List ℕ)) (c : Cursor) (value : Option (List ℕ)) (span : Option WidestSpan) : Type 0 where
   pub all_ends : ends ≡ covered_ends es o
   pub all_positions : keys ≡ positions es o
   pub value_there : value ≡ value_of es o c

@@ -1,23 +1,16 @@
--- What walks over a source may read.
-use Rattle.std.specs.Prelude.{ℕ, zero, suc, ◌+◌, ◌-◌, List, length, Option}
+-- Reading a source out, from a gap in a direction.
+use Rattle.std.specs.Prelude.{ℕ, Bool, List, length, take, drop, reverse, if◌then◌else◌}
 use Rattle.std.specs.Option.{option_map_or}
-use Rattle.rk_model.specs.Sources.{Seen, point_lt, points_below}
-use Rattle.rk_model.specs.declared.op.Entry.{Entry}
+use Rattle.rk_model.specs.Standings.{Listing}
 
--- the sum of a number of each place, from the first to one
-abbrev pub sum_to : (ℕ → ℕ) → ℕ → ℕ
-sum_to f zero = f 0
-sum_to f (suc n) = sum_to f n + f (suc n)
+-- the items behind a gap, or those before it, the last first
+abbrev pub read_from : {A : Type 0} → Bool → ℕ → List A → List A
+read_from forward g xs = if forward then drop g xs else reverse (take g xs)
 
--- what the gaps up to a place read, and none where there is no place
-abbrev pub reads_to : {A : Type 0} → Seen A → Option ℕ → ℕ
-reads_to s place = option_map_or (sum_to s.step_reads) place 0
+-- the last gap in a direction
+abbrev pub end_gap : {A : Type 0} → Bool → List A → ℕ
+end_gap forward xs = if forward then length xs else 0
 
--- From a key to the end, and back from it to the start: a seek, and the gaps behind the first entry, or up to the
--- last. Where the list isn't told, all gaps.
-abbrev pub reads_from : List ℕ → Seen Entry → ℕ
-reads_from key s =
-    s.seek_reads key + option_map_or (λ es. sum_to s.step_reads (length es) - sum_to s.step_reads (points_below key es)) s.held (sum_to s.step_reads s.count)
-
-abbrev pub reads_before : List ℕ → Seen Entry → ℕ
-reads_before key s = s.seek_reads key + option_map_or (λ es. reads_to s (point_lt key es)) s.held (sum_to s.step_reads s.count)
+-- up to which reads a walk comes at a gap of the list
+abbrev pub walk_at : {A : Type 0} → Listing A → Bool → (List A → ℕ) → ℕ
+walk_at l forward at = option_map_or (λ xs. l.walk_price forward (at xs)) l.held 0

@@ -1,62 +1,71 @@
-//! What a source of points holds, read from a key on or back from it.
-ghost use Rattle.std.specs.Prelude.{◌≡◌, IfSome, IfOk, OnOk, None, take, drop, reverse};
-ghost use Rattle.rk_outside.specs.Causes.{HasSourceCause, RaisesAtMost};
-ghost use Rattle.rk_model.specs.Sources.{Same, may_name, points_below};
-ghost use Rattle.rk_model.specs.Reads.{reads_from, reads_before};
+//! What a source of points holds, read from a cut on or back from it.
+ghost use Rattle.std.specs.Prelude.{◌≡◌, ◌+◌, IfSome, IfOk, OnOk, None, true, false, take, drop, reverse, length};
+ghost use Rattle.rk_model.specs.Cuts.{cut_copied, count_before};
+ghost use Rattle.rk_model.specs.Items.{point_takes};
+ghost use Rattle.rk_model.specs.Reads.{read_from, end_gap, walk_at};
+ghost use Rattle.rk_model.specs.Standings.{Costs};
 
-use crate::{Entry, PointSource};
+use crate::{Cut, Entry, Source};
 use rk_key::UserKey;
 use rk_outside::{Counting, SourceError};
 use std::alloc::Global;
 
-/// Copies of the points whose keys are not below the key, ascending. The source is at no place behind them.
+/// Copies of the points behind a cut, ascending. The source stands at its end then.
 ///
 /// # Errors
 ///
-/// As [`PointSource::seek_ge`], but the source may be at any place then.
-pub fn points_from<R: Counting, S: PointSource<R>>(
+/// As [`Source`], but the source may stand at any gap then.
+pub fn points_from<R: Counting, S: Source<R, Item = Entry>>(
     alloc: Global,
     source: &mut S,
     reader: &mut R,
-    key: &UserKey,
+    cut: Cut<&UserKey>,
 ) -> Result<Vec<Entry>, SourceError>
-    ensures points { IfOk result (λ points. IfSome (S.seen source.old).held (λ es. points.items ≡ drop (points_below key.now es) es)) }
-    ensures same { Same (S.seen source.old) (S.seen source.new) }
-    ensures over { OnOk result ((S.seen source.new).place ≡ None) }
-    ensures cause { HasSourceCause (may_name (S.seen source.old)) (R.fault_count reader.old) (R.fault_count reader.new) result }
-    ensures reads { RaisesAtMost (R.read_count reader.old) (R.read_count reader.new) (reads_from key.now (S.seen source.old)) }
+    ensures points { IfOk result (λ points. IfSome (S.listing source.old).held (λ es. points.items ≡ drop (count_before (point_takes (cut_copied cut.entry)) es) es)) }
+    ensures same { S.listing source.new ≡ S.listing source.old }
+    ensures over { OnOk result ((S.standing source.new).here ≡ None) }
+    ensures costs { Costs (S.listing source.old) (S.standing source.old).owed (S.standing source.new).owed (R.counts reader.old) (R.counts reader.new) (walk_at (S.listing source.old) true (count_before (point_takes (cut_copied cut.entry)))) ((S.listing source.old).seek_price true (cut_copied cut.entry) + walk_at (S.listing source.old) true length) result }
 {
-    let mut points = Vec::new(alloc);
-    source.seek_ge(reader, key)?;
-    while let Some(entry) = source.here() {
-        points.push(entry.copy()?)?;
-        source.next(reader)?;
-    }
-    Ok(points)
+    read_out(alloc, source, reader, cut, true)
 }
 
-/// Copies of the points whose keys are below the key, descending. The source is at no place behind them.
+/// Copies of the points before a cut, descending. The source stands at its beginning then.
 ///
 /// # Errors
 ///
-/// As [`PointSource::seek_ge`], but the source may be at any place then.
-pub fn points_before<R: Counting, S: PointSource<R>>(
+/// As [`Source`], but the source may stand at any gap then.
+pub fn points_before<R: Counting, S: Source<R, Item = Entry>>(
     alloc: Global,
     source: &mut S,
     reader: &mut R,
-    key: &UserKey,
+    cut: Cut<&UserKey>,
 ) -> Result<Vec<Entry>, SourceError>
-    ensures points { IfOk result (λ points. IfSome (S.seen source.old).held (λ es. points.items ≡ reverse (take (points_below key.now es) es))) }
-    ensures same { Same (S.seen source.old) (S.seen source.new) }
-    ensures over { OnOk result ((S.seen source.new).place ≡ None) }
-    ensures cause { HasSourceCause (may_name (S.seen source.old)) (R.fault_count reader.old) (R.fault_count reader.new) result }
-    ensures reads { RaisesAtMost (R.read_count reader.old) (R.read_count reader.new) (reads_before key.now (S.seen source.old)) }
+    ensures points { IfOk result (λ points. IfSome (S.listing source.old).held (λ es. points.items ≡ reverse (take (count_before (point_takes (cut_copied cut.entry)) es) es))) }
+    ensures same { S.listing source.new ≡ S.listing source.old }
+    ensures over { OnOk result ((S.standing source.new).here ≡ None) }
+    ensures costs { Costs (S.listing source.old) (S.standing source.old).owed (S.standing source.new).owed (R.counts reader.old) (R.counts reader.new) (walk_at (S.listing source.old) false (count_before (point_takes (cut_copied cut.entry)))) ((S.listing source.old).seek_price false (cut_copied cut.entry) + walk_at (S.listing source.old) false (λ es. 0)) result }
+{
+    read_out(alloc, source, reader, cut, false)
+}
+
+// Copies of the points from a cut in a direction.
+fn read_out<R: Counting, S: Source<R, Item = Entry>>(
+    alloc: Global,
+    source: &mut S,
+    reader: &mut R,
+    cut: Cut<&UserKey>,
+    forward: bool,
+) -> Result<Vec<Entry>, SourceError>
+    ensures points { IfOk result (λ points. IfSome (S.listing source.old).held (λ es. points.items ≡ read_from forward (count_before (point_takes (cut_copied cut.entry)) es) es)) }
+    ensures same { S.listing source.new ≡ S.listing source.old }
+    ensures over { OnOk result ((S.standing source.new).here ≡ None) }
+    ensures costs { Costs (S.listing source.old) (S.standing source.old).owed (S.standing source.new).owed (R.counts reader.old) (R.counts reader.new) (walk_at (S.listing source.old) forward (count_before (point_takes (cut_copied cut.entry)))) ((S.listing source.old).seek_price forward (cut_copied cut.entry) + walk_at (S.listing source.old) forward (end_gap forward)) result }
 {
     let mut points = Vec::new(alloc);
-    source.seek_lt(reader, key)?;
+    source.seek(reader, cut, forward)?;
     while let Some(entry) = source.here() {
         points.push(entry.copy()?)?;
-        source.prev(reader)?;
+        source.step(reader, forward)?;
     }
     Ok(points)
 }

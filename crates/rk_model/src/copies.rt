@@ -1,5 +1,6 @@
 // Copies of keys, of bounds and of lists of entries.
-ghost use Rattle.std.specs.Prelude.{◌≡◌, IfOk};
+ghost use Rattle.std.specs.Prelude.{◌≡◌, IfOk, IsTrue};
+ghost use Rattle.rk_key.specs.KeyTests.{is_key};
 
 use crate::Entry;
 use rk_key::UserKey;
@@ -12,9 +13,24 @@ use std::alloc::Global;
 ///
 /// `NoMemory`: a key that stands is refused for nothing else.
 pub fn copy_key(key: &UserKey) -> Result<UserKey, NoMemory>
-    ensures { IfOk result (λ k. k ≡ key.now) }
+    ensures value { IfOk result (λ k. k ≡ key.now) }
+    ensures is_key { IfOk result (λ k. IsTrue (is_key k)) }
 {
     match key.copy() {
+        Ok(copied) => Ok(copied),
+        Err(_) => Err(NoMemory),
+    }
+}
+
+/// An equal key, in the memory of an old one.
+///
+/// # Errors
+///
+/// `NoMemory` where that is too little and there is no more. The old one is gone.
+pub(crate) fn copy_key_into(key: &UserKey, old: UserKey) -> Result<UserKey, NoMemory>
+    ensures { IfOk result (λ k. k ≡ key.now) }
+{
+    match key.copy_into(old) {
         Ok(copied) => Ok(copied),
         Err(_) => Err(NoMemory),
     }

@@ -6,29 +6,36 @@
 //! they stand, over any entries and options: its moves answer exactly what `after_move` says, and where
 //! memory ends it stays as it was.
 //!
-//! [`PointSource`] and [`SpanSource`] are what a chunk, a table, a level and a merge are to the crates above: a
-//! sorted list and a place in it. [`ListPoints`] and [`ListSpans`] are sources over lists in memory, [`point_ge`] and
-//! its like find places in such lists, and [`points_from`] and [`points_before`] read out what a source holds.
+//! A [`Source`] is what a chunk, a table, a level and a merge are to the crates above: a sorted list of items and a
+//! gap of it. [`PointSource`] and [`SpanSource`] have its calls in their usual names. [`Listed`] is a source over any
+//! list in memory, as [`ListPoints`] and [`ListSpans`] are, and [`points_from`] and [`points_before`] read out what a
+//! source of points holds.
 #![tactic(auto)]
 
 mod both_ways;
 mod copies;
 mod cursor;
-mod list_source;
+mod cut;
+mod item;
+mod listed;
 mod op;
 mod options;
-mod places;
+mod order;
 mod plain;
+mod sorted;
 mod source;
 mod span;
 
 pub use both_ways::{points_before, points_from};
 pub use copies::{copy_bound, copy_key};
 pub use cursor::Cursor;
-pub use list_source::{ListPoints, ListSpans};
+pub use cut::Cut;
+pub use item::Item;
+pub use listed::{Lends, ListPoints, ListSpans, Listed};
 pub use op::{Entry, Op};
 pub use options::IterOptions;
-pub use places::{before_cut, behind_cut, compare_entries, point_ge, point_lt, span_ge, span_lt};
+pub use order::compare_entries;
 pub use plain::{Plain, first_greater};
-pub use source::{PointList, PointSource, SpanList, SpanSource};
+pub use sorted::{Sorted, Source};
+pub use source::{PointSource, SpanSource};
 pub use span::{RangeKey, RangeKeys, RangeKind, Span, SuffixValue};

@@ -1,7 +1,8 @@
-ghost use Rattle.std.specs.Prelude.{◌≡◌, IfOk, MatchOption, [], ◌∷◌};
+ghost use Rattle.std.specs.Prelude.{◌≡◌, IfOk, IsTrue, MatchOption, [], ◌∷◌};
+ghost use Rattle.rk_model.specs.Items.{has_keys};
 ghost use Rattle.rk_model.specs.Spans.{op_ends};
 
-use crate::copies::copy_key;
+use crate::copies::{copy_key, copy_key_into};
 use rk_key::{Suffix, UserKey};
 use rk_outside::{Bytes, NoMemory};
 
@@ -38,13 +39,14 @@ pub enum Op {
 }
 
 impl Op {
-    /// An equal operation.
+    /// An equal operation. Its keys are keys.
     ///
     /// # Errors
     ///
     /// `NoMemory` where a key or the value finds no memory.
     pub fn copy(&self) -> Result<Op, NoMemory>
-        ensures { IfOk result (λ op. op ≡ self.now) }
+        ensures value { IfOk result (λ op. op ≡ self.now) }
+        ensures keys { IfOk result (λ op. IsTrue (has_keys op)) }
     {
         match self {
             Op::Put { key, value } => Ok(Op::Put {
@@ -77,6 +79,29 @@ impl Op {
         }
     }
 
+    /// An equal operation. That of a put is made in the memory of an old put.
+    ///
+    /// # Errors
+    ///
+    /// `NoMemory` where a key or the value finds no memory. The old one is gone.
+    pub fn copy_into(&self, old: Op) -> Result<Op, NoMemory>
+        ensures { IfOk result (λ op. op ≡ self.now) }
+    {
+        match (self, old) {
+            (
+                Op::Put { key, value },
+                Op::Put {
+                    key: old_key,
+                    value: old_value,
+                },
+            ) => Ok(Op::Put {
+                key: copy_key_into(key, old_key)?,
+                value: value.copy_into(old_value)?,
+            }),
+            _ => self.copy(),
+        }
+    }
+
     /// The start and the end of an operation on a span. It takes no memory.
     pub fn ends(&self) -> Option<(&UserKey, &UserKey)>
         ensures { MatchOption result (op_ends self.now ≡ []) (λ ends. op_ends self.now ≡ ends.0.now ∷ ends.1.now ∷ []) }
@@ -98,16 +123,31 @@ pub struct Entry {
 }
 
 impl Entry {
-    /// An equal entry.
+    /// An equal entry. Its keys are keys.
     ///
     /// # Errors
     ///
     /// `NoMemory` where its operation finds no memory.
     pub fn copy(&self) -> Result<Entry, NoMemory>
-        ensures { IfOk result (λ entry. entry ≡ self.now) }
+        ensures value { IfOk result (λ entry. entry ≡ self.now) }
+        ensures keys { IfOk result (λ entry. IsTrue (has_keys entry.op)) }
     {
         Ok(Entry {
             op: self.op.copy()?,
+            seq: self.seq,
+        })
+    }
+
+    /// An equal entry. That of a put is made in the memory of an old put.
+    ///
+    /// # Errors
+    ///
+    /// `NoMemory` where its operation finds no memory. The old one is gone.
+    pub fn copy_into(&self, old: Entry) -> Result<Entry, NoMemory>
+        ensures { IfOk result (λ entry. entry ≡ self.now) }
+    {
+        Ok(Entry {
+            op: self.op.copy_into(old.op)?,
             seq: self.seq,
         })
     }

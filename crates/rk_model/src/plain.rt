@@ -45,13 +45,13 @@ pub struct Plain {
 
 impl Model for Plain {
     ghost use Rattle.rk_model.specs.Moves.{View};
-    ghost use Rattle.rk_model.specs.Plain.{IsKept};
+    ghost use Rattle.rk_model.specs.Plain.{IsPlain};
 
     ghost Value = { View };
 
     ghost view = { λ p. record { sees = p.entries.items; options = p.options; cursor = p.cursor; changed = p.changed } };
 
-    ghost invariant = { λ p. IsKept p.entries.items p.options p.ends.items p.positions.items p.cursor p.value p.span };
+    ghost invariant = { λ p. IsPlain p.entries.items p.options p.ends.items p.positions.items p.cursor p.value p.span };
 }
 
 /// What a cursor reports.

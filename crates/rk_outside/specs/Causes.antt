@@ -19,11 +19,6 @@ pub record HasCauseOf {T E : Type 0} (error : E) (before now : ℕ) (result : Re
   pub failed : IsErrOf result error → Rose before now
   pub kept : (IsErrOf result error → ⊥) → now ≡ before
 
--- a count of reads that never falls rose by no more than this
-pub record RaisesAtMost (before now most : ℕ) : Type 0 where
-  pub later : before ≤ now
-  pub bound : now ≤ before + most
-
 -- Why a source of entries refused: memory may run out at any time, a fault carries the count that rose, and a bad
 -- table is named only where the source may name that place of that file. Where it is no fault that is answered, the
 -- count stayed.

@@ -5,3 +5,4 @@ pub mod Disks
 pub mod Refusals
 pub mod Sinks
 pub mod Vaults
+pub mod Counts

@@ -64,6 +64,20 @@ impl Bytes {
     {
         Bytes::from_slice(*self.bytes.allocator(), &self.bytes)
     }
+
+    /// An equal list of bytes, in the memory of an old one.
+    ///
+    /// # Errors
+    ///
+    /// [`NoMemory`] where that is too little and there is no more. The old one is gone.
+    pub fn copy_into(&self, old: Bytes) -> Result<Bytes, NoMemory>
+        ensures { IfOk result (λ b. b ≡ self.now) }
+    {
+        let mut bytes = old.into_vec();
+        bytes.clear();
+        bytes.extend_from_slice(&self.bytes)?;
+        Ok(Bytes::from_vec(bytes))
+    }
 }
 
 impl PartialEq for Bytes {

@@ -32,8 +32,8 @@ pub trait Sealed: Send + Sync {
     fn read_at(&self, reader: &mut Self::Reader, at: u64, out: &mut [u8]) -> Result<usize, Failed>
         ensures bound { ReadsAtMost result out.new }
         ensures bytes { IfSome (held self.now) (λ bytes. IfOk result (Fills bytes at out.new)) }
-        ensures reads { Self.Reader.read_count reader.new ≡ one_more (Self.Reader.read_count reader.old) }
-        ensures cause { HasCause (Self.Reader.fault_count reader.old) (Self.Reader.fault_count reader.new)
+        ensures reads { (Self.Reader.counts reader.new).reads ≡ one_more (Self.Reader.counts reader.old).reads }
+        ensures cause { HasCause (Self.Reader.counts reader.old).faults (Self.Reader.counts reader.new).faults
             result };
 
     /// The bytes that are told are as many as it has.

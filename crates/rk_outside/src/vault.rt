@@ -156,8 +156,8 @@ pub trait Vault: Send {
     ///
     /// [`NoMemory`] where there is none for it.
     fn reader(&mut self, alloc: Global) -> Result<<Self::File as Sealed>::Reader, NoMemory>
-        ensures reads { IfOk result (λ reader. Self.File.Reader.read_count reader ≡ 0) }
-        ensures faults { IfOk result (λ reader. Self.File.Reader.fault_count reader ≡ 0) }
+        ensures reads { IfOk result (λ reader. (Self.File.Reader.counts reader).reads ≡ 0) }
+        ensures faults { IfOk result (λ reader. (Self.File.Reader.counts reader).faults ≡ 0) }
         ensures same { disk self.new ≡ disk self.old }
         ensures rooms { RoomsStay (room self.old) (room self.new) }
         ensures count { fault_count self.new ≡ fault_count self.old }
@@ -167,7 +167,7 @@ pub trait Vault: Send {
     fn give_back(&mut self, reader: <Self::File as Sealed>::Reader)
         ensures same { disk self.new ≡ disk self.old }
         ensures rooms { room self.new ≡ room self.old }
-        ensures count { TakesBack (Self.File.Reader.fault_count reader) (fault_count self.old)
+        ensures count { TakesBack (Self.File.Reader.counts reader).faults (fault_count self.old)
             (fault_count self.new) }
         ensures noted { unnoted self.new ≡ unnoted self.old };
 

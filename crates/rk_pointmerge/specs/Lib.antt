@@ -1,5 +1,5 @@
 pub mod Merges
 pub mod Moves
 pub mod MergeLaws
-pub mod Views
-pub mod ViewLaws
+pub mod Visibles
+pub mod VisibleLaws

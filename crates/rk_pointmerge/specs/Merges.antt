@@ -1,119 +1,104 @@
--- What a merge of sources of points is: the union of what they hold, and the place of the entry that is the
--- nearest of theirs in the direction in which they stand.
-use Rattle.std.specs.Prelude.{ℕ, ◌+◌, ◌-◌, ◌*◌, nat_lt, nat_eq, Bool, true, false, not, List, length, map, if◌then◌else◌, Option, Some, None, is_some, slice_get, option_map, option_and_then}
-use Rattle.std.specs.List.{list_all}
+-- What a merge of points lists, and where it stands.
+use Rattle.std.specs.Prelude.{◌≡◌, ℕ, Bool, true, false, List, length, map, All, if◌then◌else◌, Option, Some, None, is_some, unwrap_or, option_and_then, IfSome, IsTrue}
+use Rattle.std.specs.List.{slice_get}
 use Rattle.std.specs.Option.{option_map_or}
 use Rattle.std.specs.Ordering.{is_lt}
-use Rattle.rk_model.specs.Sources.{Seen, count_before, before_cut, item_at, entry_cmp, op_key, points_below, sound_points}
+use Rattle.rk_model.specs.Cuts.{count_before, item_from}
+use Rattle.rk_model.specs.Items.{keyed_points, sound}
+use Rattle.rk_model.specs.Sources.{entry_cmp}
+use Rattle.rk_model.specs.Standings.{Listing, Standing}
 use Rattle.rk_model.specs.declared.op.Entry.{Entry}
-use Rattle.rk_model.specs.Reads.{sum_to}
 use Rattle.rk_merge.specs.Unions.{union}
-use Rattle.rk_merge.specs.Cuts.{cut_past, place_near}
-use Rattle.rk_merge.specs.Several.{total, any_names, told_items}
+use Rattle.rk_merge.specs.Pools.{total}
+use Rattle.rk_merge.specs.Pools.{told_items, all_told, some_names}
+use Rattle.rk_merge.specs.Cuts.{is_nearer}
 
 abbrev pub comes_before : Entry → Entry → Bool
 comes_before e f = is_lt (entry_cmp e f)
 
--- how many entries stand before one
-abbrev pub rank : Entry → List Entry → ℕ
-rank e es = count_before (λ f. comes_before f e) es
+abbrev pub whole : List (Listing Entry) → List Entry
+whole ls = union comes_before (map told_items ls)
 
--- the entry at a source's place, where it is told
-abbrev pub shown : Seen Entry → Option Entry
-shown s = item_at (told_items s) s.place
+-- the union of what the sources list, where each is told, and no two entries over one key have one number
+abbrev pub united : List (Listing Entry) → Option (List Entry)
+united ls = if all_told ls then sound keyed_points (whole ls) else None
 
--- what any one step may read, and what any change of direction may
-abbrev pub step_most : Seen Entry → ℕ
-step_most s = sum_to s.step_reads s.count + sum_to s.turn_reads s.count
+-- how many of a source's entries stand before a gap of the union
+abbrev pub share : List Entry → ℕ → List Entry → ℕ
+share us g xs = option_map_or (λ u. count_before (λ x. comes_before x u) xs) (slice_get us g) (length xs)
 
-abbrev pub turn_most : Seen Entry → ℕ
-turn_most s = 2 * s.seek_most + 2 * sum_to s.step_reads s.count + step_most s
+abbrev pub merged : List (Listing Entry) → Listing Entry
+merged ls = record {
+  held = united ls;
+  bad = some_names ls;
+  seek_price = λ forward cut. total (λ l. l.seek_price forward cut) ls;
+  walk_price = λ forward g. total (λ l. l.walk_price forward (share (whole ls) g (told_items l))) ls;
+  turn_price = λ forward g. total (λ l. l.turn_price forward (share (whole ls) g (told_items l))) ls;
+}
 
--- how far a source has come, where it stands ahead, and where it stands back
-abbrev pub reach : Bool → Seen Entry → ℕ
-reach ahead s = if ahead then option_map_or (λ i. i) s.place s.count else option_map_or (λ i. i + 1) s.place 0
+-- the gaps of the sources together, what they owe, and what is left of them
+abbrev pub come : {S : Type 0} → (S → Standing Entry) → List S → ℕ
+come standing ss = total (λ s. unwrap_or (standing s).gap 0) ss
 
--- what a step from an entry may read, on and back, at the source that has it
-abbrev pub has_entry : Entry → Seen Entry → Bool
-has_entry e s = nat_lt (rank e (told_items s)) (count_before (cut_past true comes_before e) (told_items s))
+abbrev pub owes : {S : Type 0} → (S → Standing Entry) → List S → ℕ
+owes standing ss = total (λ s. (standing s).owed) ss
 
-abbrev pub next_reads_from : Entry → Seen Entry → ℕ
-next_reads_from e s = if has_entry e s then s.step_reads (rank e (told_items s) + 1) else 0
+abbrev pub still : {S : Type 0} → (S → Standing Entry) → List S → ℕ
+still standing ss = total (λ s. (standing s).left) ss
 
--- (back from its last entry, to which a source may have come by steps ahead, it may turn)
-abbrev pub turn_at_last : Seen Entry → ℕ → ℕ
-turn_at_last s i = if nat_eq (i + 1) (length (told_items s)) then s.turn_reads i else 0
+-- what one of the sources shows
+abbrev pub shown : {S : Type 0} → (S → Standing Entry) → List S → Option ℕ → Option Entry
+shown standing ss at = option_and_then (λ i. option_and_then (λ s. (standing s).here) (slice_get ss i)) at
 
-abbrev pub prev_reads_from : Entry → Seen Entry → ℕ
-prev_reads_from e s = if has_entry e s then s.step_reads (rank e (told_items s)) + turn_at_last s (rank e (told_items s)) else 0
+-- what is seen from a gap of the union, and what is shown where that isn't told
+abbrev pub seen_from : Option (List Entry) → Bool → ℕ → Option Entry → Option Entry
+seen_from (Some us) forward g e = item_from forward us g
+seen_from None forward g e = e
 
--- what leads a source from beyond its end to its last entry, which is not above the key: two seeks, and twice the
--- steps over its entries from the key on
-abbrev pub end_reads : List ℕ → Seen Entry → ℕ
-end_reads key s = 2 * s.seek_reads key + 2 * (sum_to s.step_reads s.count - sum_to s.step_reads (points_below key (told_items s)))
+abbrev pub merged_standing : {S : Type 0} → (S → Listing Entry) → (S → Standing Entry) → List S → Option ℕ → Bool → Bool → Standing Entry
+merged_standing listing standing ss at forward known = record {
+  gap = if known then Some (come standing ss) else None;
+  forward = forward;
+  here = if known then seen_from (united (map listing ss)) forward (come standing ss) (shown standing ss at) else None;
+  owed = owes standing ss;
+  left = still standing ss;
+}
 
--- what a source reads that turns at a place: the gap that it crosses, and the turn. Where it has no entry it seeks
--- the key, or is led to its last one.
-abbrev pub turning_reads : Bool → List ℕ → Seen Entry → Option ℕ → ℕ
-turning_reads ahead key s place =
-    option_map_or (λ i. s.step_reads (if ahead then i + 1 else i) + s.turn_reads i) place (if ahead then s.seek_reads key else end_reads key s)
-
--- and what it reads that turns beside an entry, which need not be its own: it goes to the entry's other side, ahead
--- from its last one up to there, or back from its first one from there on
-abbrev pub turn_from : Bool → Entry → Seen Entry → ℕ
-turn_from ahead e s = turning_reads ahead (op_key e.op) s (place_near (not ahead) (count_before (cut_past ahead comes_before e) (told_items s)) (length (told_items s)))
-
--- the sources, that of them which has the entry, and the direction in which they stand
+-- the sources, that of them which shows the entry, the direction, and whether the gaps are known
 pub record Merging (S : Type 0) : Type 0 where
   pub sources : List S
   pub at : Option ℕ
-  pub ahead : Bool
+  pub forward : Bool
+  pub known : Bool
 
--- the union of what they hold, where each is told, and no two entries over one key have one number
-abbrev pub united : {S : Type 0} → (S → Seen Entry) → List S → Option (List Entry)
-united seen ss =
-    if list_all (λ s. is_some (seen s).held) ss then sound_points (union comes_before (map (λ s. told_items (seen s)) ss)) else None
+abbrev pub merging : {S : Type 0} → (S → Listing Entry) → (S → Standing Entry) → Merging S → Standing Entry
+merging listing standing m = merged_standing listing standing m.sources m.at m.forward m.known
 
--- how far the sources have come, where the entry at one of them is the merge's
-abbrev pub come : {S : Type 0} → (S → Seen Entry) → List S → Bool → ℕ
-come seen ss ahead = total (λ t. reach ahead (seen t)) ss - (if ahead then 0 else 1)
+-- an entry is nearer than the nearest so far, which there may not be
+abbrev pub beats : Bool → Option Entry → Option Entry → Bool
+beats forward None f = false
+beats forward (Some e) None = true
+beats forward (Some e) (Some f) = is_nearer forward comes_before e f
 
--- the place of the entry, and where it isn't told how far the sources have come
-abbrev pub place_of : {S : Type 0} → (S → Seen Entry) → Option (List Entry) → List S → Bool → S → Option ℕ
-place_of seen (Some es) ss ahead s = option_map (λ e. rank e es) (shown (seen s))
-place_of seen None ss ahead s = Some (come seen ss ahead)
+-- each source has a gap, and faces the same way
+abbrev pub Faces : {S : Type 0} → (S → Standing Entry) → Bool → List S → Type 0
+Faces standing forward ss = All (λ s. (is_some (standing s).gap ≡ true) × ((standing s).forward ≡ forward)) ss
 
-abbrev pub merged_place : {S : Type 0} → (S → Seen Entry) → List S → Option ℕ → Bool → Option ℕ
-merged_place seen ss at ahead = option_and_then (λ i. option_and_then (place_of seen (united seen ss) ss ahead) (slice_get ss i)) at
+-- no source shows an entry that is nearer than that of this one
+abbrev pub IsNearest : {S : Type 0} → (S → Standing Entry) → Bool → List S → Option ℕ → Type 0
+IsNearest standing forward ss at = All (λ s. beats forward (standing s).here (shown standing ss at) ≡ false) ss
 
-abbrev pub merged_count : {S : Type 0} → (S → Seen Entry) → Option (List Entry) → List S → ℕ
-merged_count seen (Some es) ss = length es
-merged_count seen None ss = total (λ s. (seen s).count) ss
+-- each source stands at its share of a gap of the union
+abbrev pub InShares : {S : Type 0} → (S → Listing Entry) → (S → Standing Entry) → List S → Type 0
+InShares listing standing ss = IfSome (united (map listing ss)) (λ us. All (λ s. (standing s).gap ≡ Some (share us (come standing ss) (told_items (listing s)))) ss)
 
--- a step reads at the source that has the entry which it leaves
-abbrev pub merged_steps : {S : Type 0} → (S → Seen Entry) → Option (List Entry) → List S → ℕ → ℕ
-merged_steps seen (Some es) ss gap =
-    option_map_or (λ e. total (λ s. next_reads_from e (seen s)) ss) (item_at es (before_cut gap)) 0 + option_map_or (λ e. total (λ s. prev_reads_from e (seen s)) ss) (slice_get es gap) 0
-merged_steps seen None ss gap = total (λ s. step_most (seen s)) ss
+-- and one shows the nearest entry
+pub record StandTogether {S : Type 0} (listing : S → Listing Entry) (standing : S → Standing Entry) (ss : List S) (at : Option ℕ) (forward : Bool) : Type 0 where
+  pub faces : Faces standing forward ss
+  pub nearest : IsNearest standing forward ss at
+  pub shares : InShares listing standing ss
 
--- a turn ahead or back at a place reads at each source what its turn from the entry there does
-abbrev pub merged_turn : {S : Type 0} → Bool → (S → Seen Entry) → Option (List Entry) → List S → ℕ → ℕ
-merged_turn ahead seen (Some es) ss place = option_map_or (λ e. total (λ s. turn_from ahead e (seen s)) ss) (slice_get es place) 0
-merged_turn ahead seen None ss place = total (λ s. turn_most (seen s)) ss
-
-abbrev pub merged : {S : Type 0} → (S → Seen Entry) → List S → Option ℕ → Bool → Seen Entry
-merged seen ss at ahead = record {
-  held = united seen ss;
-  bad = any_names seen ss;
-  place = merged_place seen ss at ahead;
-  count = merged_count seen (united seen ss) ss;
-  seek_reads = λ key. total (λ s. (seen s).seek_reads key) ss;
-  seek_most = total (λ s. (seen s).seek_most) ss;
-  step_reads = merged_steps seen (united seen ss) ss;
-  turn_reads = λ place. merged_turn true seen (united seen ss) ss place + merged_turn false seen (united seen ss) ss place;
-  turn_to_next = if ahead then 0 else option_map_or (merged_turn true seen (united seen ss) ss) (merged_place seen ss at ahead) 0;
-  turn_to_prev = if ahead then option_map_or (merged_turn false seen (united seen ss) ss) (merged_place seen ss at ahead) 0 else 0;
-}
-
-abbrev pub merging_seen : {S : Type 0} → (S → Seen Entry) → Merging S → Seen Entry
-merging_seen seen m = merged seen m.sources m.at m.ahead
+-- a merge that is lost shows nothing
+pub record Rests {S : Type 0} (listing : S → Listing Entry) (standing : S → Standing Entry) (m : Merging S) : Type 0 where
+  pub stands : IsTrue m.known → StandTogether listing standing m.sources m.at m.forward
+  pub lost : m.known ≡ false → m.at ≡ None

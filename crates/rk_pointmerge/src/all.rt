@@ -1,79 +1,58 @@
-// The moves of all sources of a merge.
-ghost use Rattle.std.specs.Prelude.{◌≡◌, ◌+◌, ◌<◌, ◌≤◌, ℕ, length, All, OnOk, IfOk, IfErr, IfSome, IsSome, IsTrue, Some, not, slice_index_or};
-ghost use Rattle.rk_outside.specs.declared.error.SourceError.{SourceError};
-ghost use Rattle.rk_model.specs.Sources.{op_key};
-ghost use Rattle.rk_merge.specs.Several.{total, names_of};
-ghost use Rattle.rk_pointmerge.specs.Merges.{united, merged, shown};
-ghost use Rattle.rk_model.specs.Runs.{Runs, IsWithin};
-ghost use Rattle.rk_merge.specs.Directions.{turn_to, go_reads};
-ghost use Rattle.rk_merge.specs.Several.{all_rest};
-ghost use Rattle.rk_pointmerge.specs.Moves.{Placed, placed_most, Stands, Left};
+// Calls of all sources of a merge, one after another.
+ghost use Rattle.std.specs.Prelude.{◌≡◌, ◌<◌, ◌≤◌, ℕ, Some, not, length, map, IsTrue, IfSome};
+ghost use Rattle.std.specs.Option.{option_map};
+ghost use Rattle.rk_model.specs.Cuts.{cut_copied, count_before, gap_past};
+ghost use Rattle.rk_model.specs.Items.{point_takes};
+ghost use Rattle.rk_model.specs.Standings.{walked, pass_to, step_gap, step_from, step_to};
+ghost use Rattle.rk_pointmerge.specs.Merges.{Faces};
+ghost use Rattle.rk_pointmerge.specs.Moves.{Reaches, PassesCut, AllMove};
 
-use crate::one::{place_one, step_one};
 use rk_key::UserKey;
-use rk_model::{PointSource, copy_key};
+use rk_model::{Cut, Entry, Source};
 use rk_outside::{Counting, SourceError};
 
-// Each source as `place_one` places it.
-pub(crate) fn place_all<R: Counting, S: PointSource<R>>(
+// Each source to the gap of a cut.
+pub(crate) fn seek_all<R: Counting, S: Source<R, Item = Entry>>(
     sources: &mut [S],
     reader: &mut R,
-    key: &UserKey,
-    ahead: bool,
-    turning: bool,
+    cut: Cut<&UserKey>,
+    forward: bool,
 ) -> Result<(), SourceError>
-    requires { IsTrue turning → All (λ s. IsWithin (S.seen s)) sources.old }
-    ensures ok { OnOk result ((k : ℕ) (d : S) → k < length sources.old → Placed turning key.now ahead (S.seen (slice_index_or sources.old k d)) (S.seen (slice_index_or sources.new k d))) }
-    ensures runs { Runs (all_rest S.seen sources.old) (all_rest S.seen sources.new) (names_of S.seen (united S.seen sources.old) sources.old) (R.fault_count reader.old) (R.fault_count reader.new) (R.read_count reader.old) (R.read_count reader.new) (total (λ s. placed_most turning key.now ahead (S.seen s)) sources.old) result }
+    ensures { AllMove S.listing S.standing (λ s t. Reaches (S.listing s) (S.standing t) forward (λ xs. Some (count_before (point_takes (cut_copied cut.entry)) xs))) (λ s. 0) (λ s. (S.listing s).seek_price forward (cut_copied cut.entry)) sources.old sources.new (R.counts reader.old) (R.counts reader.new) result }
 {
     for source in sources.iter_mut() {
-        place_one(source, reader, key, ahead, turning)?;
+        source.seek(reader, cut, forward)?;
     }
     Ok(())
 }
 
-// From the entry of one source on, in a direction; a turn, where the sources stood in the other.
-pub(crate) fn leave<R: Counting, S: PointSource<R>>(
+// Each source on to the gap of a cut.
+pub(crate) fn pass_all<R: Counting, S: Source<R, Item = Entry>>(
     sources: &mut [S],
     reader: &mut R,
-    at: usize,
-    was: bool,
-    ahead: bool,
+    cut: Cut<&UserKey>,
+    forward: bool,
 ) -> Result<(), SourceError>
-    requires { Stands S.seen sources.old at was }
-    ensures ok { OnOk result (Left S.seen sources.old sources.new at was ahead) }
-    ensures runs { Runs (all_rest S.seen sources.old) (all_rest S.seen sources.new) (names_of S.seen (united S.seen sources.old) sources.old) (R.fault_count reader.old) (R.fault_count reader.new) (R.read_count reader.old) (R.read_count reader.new) (go_reads ahead (merged S.seen sources.old (Some at) was)) result }
+    requires { Faces S.standing forward sources.old }
+    ensures { AllMove S.listing S.standing (λ s t. PassesCut (S.listing s) (S.standing s) (S.standing t) forward (point_takes (cut_copied cut.entry))) (λ s. walked (S.listing s) forward (S.standing s).gap) (λ s. pass_to (S.listing s) forward (point_takes (cut_copied cut.entry)) (S.standing s)) sources.old sources.new (R.counts reader.old) (R.counts reader.new) result }
 {
-    if was == ahead {
-        step_one(&mut sources[at], reader, ahead)
-    } else {
-        turn(sources, reader, at, ahead)
+    for source in sources.iter_mut() {
+        source.pass(reader, cut, forward)?;
     }
+    Ok(())
 }
 
-// Each source to the other side of the entry of one of them.
-fn turn<R: Counting, S: PointSource<R>>(
+// Each source to the other side of its gap.
+pub(crate) fn turn_all<R: Counting, S: Source<R, Item = Entry>>(
     sources: &mut [S],
     reader: &mut R,
-    at: usize,
-    ahead: bool,
+    forward: bool,
 ) -> Result<(), SourceError>
-    requires { Stands S.seen sources.old at (not ahead) }
-    ensures ok { OnOk result (Left S.seen sources.old sources.new at (not ahead) ahead) }
-    ensures runs { Runs (all_rest S.seen sources.old) (all_rest S.seen sources.new) (names_of S.seen (united S.seen sources.old) sources.old) (R.fault_count reader.old) (R.fault_count reader.new) (R.read_count reader.old) (R.read_count reader.new) (turn_to ahead (merged S.seen sources.old (Some at) (not ahead))) result }
+    requires { Faces S.standing (not forward) sources.old }
+    ensures { AllMove S.listing S.standing (λ s t. Reaches (S.listing s) (S.standing t) forward (λ xs. option_map (step_gap forward (S.standing s)) (S.standing s).gap)) (λ s. step_from (S.listing s) forward (S.standing s)) (λ s. step_to (S.listing s) forward (S.standing s)) sources.old sources.new (R.counts reader.old) (R.counts reader.new) result }
 {
-    let key = key_at::<R, S>(&sources[at])?;
-    place_all(sources, reader, &key, ahead, true)
-}
-
-// A copy of the key of the entry that a source shows.
-fn key_at<R: Counting, S: PointSource<R>>(source: &S) -> Result<UserKey, SourceError>
-    requires { IsSome (S.seen source.now).place }
-    ensures ok { IfOk result (λ key. IfSome (shown (S.seen source.now)) (λ e. key ≡ op_key e.op)) }
-    ensures memory { IfErr result (λ e. e ≡ SourceError.Memory) }
-{
-    let Some(entry) = source.here() else {
-        return Err(SourceError::Memory);
-    };
-    Ok(copy_key(entry.op.key())?)
+    for source in sources.iter_mut() {
+        source.step(reader, forward)?;
+    }
+    Ok(())
 }

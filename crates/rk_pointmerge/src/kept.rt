@@ -1,9 +1,11 @@
-// A key that is kept in a buffer.
-ghost use Rattle.std.specs.Prelude.{◌≡◌, OnOk, IfOk, IfErr, IsSome, IsTrue, Some, None};
+// A key and an entry that are kept in buffers.
+ghost use Rattle.std.specs.Prelude.{◌≡◌, OnOk, IfErr, Some, None};
+ghost use Rattle.std.specs.Option.{option_copied};
 ghost use Rattle.rk_outside.specs.declared.error.SourceError.{SourceError};
-ghost use Rattle.rk_pointmerge.specs.Views.{is_kept};
+ghost use Rattle.rk_pointmerge.specs.Visibles.{is_kept};
 
-use rk_key::{UserKey, compare, read_key};
+use rk_key::{UserKey, compare};
+use rk_model::Entry;
 use rk_outside::SourceError;
 use std::alloc::Global;
 use std::marker::Model;
@@ -16,13 +18,13 @@ pub(crate) struct KeptKey {
 
 impl Model for KeptKey {
     ghost use Rattle.std.specs.Prelude.{ℕ, List, Option};
-    ghost use Rattle.rk_pointmerge.specs.Views.{kept_key, IsKept};
+    ghost use Rattle.rk_pointmerge.specs.Visibles.{kept_key, IsKeyOrNone};
 
     ghost Value = { Option (List ℕ) };
 
     ghost view = { λ k. kept_key k.bytes.items };
 
-    ghost invariant = { λ k. IsKept k.bytes.items };
+    ghost invariant = { λ k. IsKeyOrNone k.bytes.items };
 }
 
 impl KeptKey {
@@ -49,21 +51,65 @@ impl KeptKey {
     }
 
     pub(crate) fn is(&self, key: &UserKey) -> bool
-        ensures is { result ≡ is_kept self.now key.now }
-        ensures same { IsTrue result → self.now ≡ Some key.now }
+        ensures { result ≡ is_kept self.now key.now }
     {
         !self.bytes.is_empty() && compare(key.bytes(), &self.bytes).is_eq()
     }
+}
 
-    pub(crate) fn key(&self) -> Result<UserKey, SourceError>
-        requires { IsSome self.now }
-        ensures ok { IfOk result (λ key. self.now ≡ Some key) }
+// An entry, or none. Its buffers stay, so that only a longer key or value takes memory.
+#[derive(Debug, Drop)]
+pub(crate) struct KeptEntry {
+    entry: Option<Entry>,
+    is_kept: bool,
+}
+
+impl Model for KeptEntry {
+    ghost use Rattle.std.specs.Prelude.{Option, None, if◌then◌else◌};
+    ghost use Rattle.rk_model.specs.declared.op.Entry.{Entry};
+
+    ghost Value = { Option Entry };
+
+    ghost view = { λ k. if k.is_kept then k.entry else None };
+}
+
+impl KeptEntry {
+    pub(crate) fn new() -> KeptEntry
+        ensures { result ≡ None }
+    {
+        KeptEntry {
+            entry: None,
+            is_kept: false,
+        }
+    }
+
+    pub(crate) fn clear(&mut self)
+        ensures { self.new ≡ None }
+    {
+        self.is_kept = false;
+    }
+
+    pub(crate) fn keep(&mut self, entry: &Entry) -> Result<(), SourceError>
+        ensures ok { OnOk result (self.new ≡ Some entry.now) }
         ensures memory { IfErr result (λ e. e ≡ SourceError.Memory) }
     {
-        let alloc = *self.bytes.allocator();
-        match read_key(alloc, &self.bytes) {
-            Ok(key) => Ok(key),
-            Err(_) => Err(SourceError::Memory),
+        self.is_kept = false;
+        let copy = match self.entry.take() {
+            Some(old) => entry.copy_into(old)?,
+            None => entry.copy()?,
+        };
+        self.entry = Some(copy);
+        self.is_kept = true;
+        Ok(())
+    }
+
+    pub(crate) fn get(&self) -> Option<&Entry>
+        ensures { option_copied result ≡ self.now }
+    {
+        if self.is_kept {
+            self.entry.as_ref()
+        } else {
+            None
         }
     }
 }

@@ -1,23 +1,23 @@
-//! The points of several sources as one source, and what is seen of them at a number.
+//! The points of several sources as one source, and what is seen of points at a number.
 //!
 //! It stands on the keys of `rk_key`, the causes of refusals of `rk_outside`, the sources of `rk_model`, and the
-//! law of merging lists of `rk_merge`. [`PointMerge`] is a
-//! source over sources, proved by their contract alone: its list is their union, by key and the newest first
-//! within one key, told where each of them is told and no two entries over one key have one number.
-//! [`Visible`] shows of each key the newest entry that is numbered at most `n`, where that is a put. Both go
-//! both ways and turn anywhere. Where they aren't told, they are safe, return, and hand refusals on with their
-//! causes; a bad table that they name is one that a source may name.
+//! law of merging lists of `rk_merge`. [`PointMerge`] is a source over sources, proved by their contract alone: its
+//! list is their union, by key and the newest first within one key, told where each of them is told and no two
+//! entries over one key have one number. It goes both ways and turns anywhere. Where it isn't told, it is safe,
+//! returns, and hands refusals on with their causes; a bad table that it names is one that a source may name.
+//!
+//! [`Visible`] is a source over any source of points: of each key its newest entry numbered at most so, where that
+//! is a put.
 #![tactic(auto)]
 
-mod ahead;
 mod all;
-mod back;
+mod backward;
+mod forward;
 mod kept;
 mod laws;
-mod look;
 mod merge;
+mod moves;
 mod nearest;
-mod one;
 mod visible;
 
 pub use laws::{

@@ -1,53 +1,56 @@
 // The nearest of the entries that the sources of a merge show.
-ghost use Rattle.std.specs.Prelude.{◌≡◌, ◌<◌, length, All, IfSome, IsTrue, is_some, true, slice_index_or, option_and_then};
+ghost use Rattle.std.specs.Prelude.{◌≡◌};
+ghost use Rattle.std.specs.Option.{option_copied};
 ghost use Rattle.rk_merge.specs.Cuts.{is_nearer};
-ghost use Rattle.rk_pointmerge.specs.Merges.{comes_before, shown};
-ghost use Rattle.rk_pointmerge.specs.Moves.{beats, IsNearest};
+ghost use Rattle.rk_pointmerge.specs.Merges.{comes_before, shown, beats, IsNearest};
 
-use rk_model::{Entry, PointSource, compare_entries};
+use rk_model::{Entry, Source, compare_entries};
 use rk_outside::Counting;
 
-// The source that shows the nearest entry, the first one ahead or the last one back.
-pub(crate) fn nearest<R: Counting, S: PointSource<R>>(sources: &[S], ahead: bool) -> Option<usize>
-    ensures { IsNearest S.seen sources.now ahead result }
+// The source that shows the nearest entry: forward the first one, and backward the last.
+pub(crate) fn nearest<R: Counting, S: Source<R, Item = Entry>>(
+    sources: &[S],
+    forward: bool,
+) -> Option<usize>
+    ensures { IsNearest S.standing forward sources.now result }
 {
     let mut best = None;
     for i in 0..sources.len() {
-        if beats::<R, S>(sources, i, best, ahead) {
+        let entry = shown_at::<R, S>(sources, Some(i));
+        if beats(entry, shown_at::<R, S>(sources, best), forward) {
             best = Some(i);
         }
     }
     best
 }
 
-// A source shows an entry that is nearer than that of the best so far.
-fn beats<R: Counting, S: PointSource<R>>(
+// What one of the sources shows.
+pub(crate) fn shown_at<R: Counting, S: Source<R, Item = Entry>>(
     sources: &[S],
-    i: usize,
-    best: Option<usize>,
-    ahead: bool,
-) -> bool
-    requires among { i < length sources.now }
-    requires best_among { IfSome best (λ b. b < length sources.now) }
-    ensures placed { IsTrue result → (d : S) → is_some (S.seen (slice_index_or sources.now i d)).place ≡ true }
-    ensures told { All (λ s. is_some (S.seen s).held ≡ true) sources.now → (d : S) → result ≡ beats ahead (shown (S.seen (slice_index_or sources.now i d))) (option_and_then (λ b. shown (S.seen (slice_index_or sources.now b d))) best) }
+    at: Option<usize>,
+) -> Option<&Entry>
+    ensures { option_copied result ≡ shown S.standing sources.now at }
 {
-    let Some(entry) = sources[i].here() else {
-        return false;
-    };
-    let Some(at) = best else {
-        return true;
-    };
-    match sources[at].here() {
-        Some(other) => is_nearer(entry, other, ahead),
-        None => true,
+    sources.get(at?)?.here()
+}
+
+// There is an entry, and it is nearer than the other, or there is no other.
+fn beats(entry: Option<&Entry>, other: Option<&Entry>, forward: bool) -> bool
+    ensures { result ≡ beats forward (option_copied entry.entry) (option_copied other.entry) }
+{
+    match (entry, other) {
+        (Some(entry), Some(other)) => is_nearer(entry, other, forward),
+        (entry, _) => entry.is_some(),
     }
 }
 
 // In the order by key, and the newest first within one key, an entry comes before another, or behind it.
-fn is_nearer(entry: &Entry, other: &Entry, ahead: bool) -> bool
-    ensures { result ≡ is_nearer ahead comes_before entry.now other.now }
+fn is_nearer(entry: &Entry, other: &Entry, forward: bool) -> bool
+    ensures { result ≡ is_nearer forward comes_before entry.now other.now }
 {
-    let order = compare_entries(entry, other);
-    if ahead { order.is_lt() } else { order.is_gt() }
+    if forward {
+        compare_entries(entry, other).is_lt()
+    } else {
+        compare_entries(other, entry).is_lt()
+    }
 }

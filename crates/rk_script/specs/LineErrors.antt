@@ -14,5 +14,5 @@ abbrev pub ReadsAs : {A B : Type 0} → (A → B) → Result A LineError → Res
 ReadsAs view (Ok a) read = read ≡ Ok (view a)
 ReadsAs view (Err error) read = Refuses read error
 
-abbrev pub Reads : {A : Type 0} → Result A LineError → Result A Why → Type 0
-Reads result read = ReadsAs (λ a. a) result read
+abbrev pub ReadsSame : {A : Type 0} → Result A LineError → Result A Why → Type 0
+ReadsSame result read = ReadsAs (λ a. a) result read

@@ -1,7 +1,7 @@
 // Lines that add to a writer's batch.
 ghost use Rattle.std.specs.Prelude.{map};
 ghost use Rattle.rk_script.specs.Grammar.{two, three, four, five, put, del, range_set, range_unset, range_del};
-ghost use Rattle.rk_script.specs.LineErrors.{Reads};
+ghost use Rattle.rk_script.specs.LineErrors.{ReadsSame};
 
 use crate::error::{LineError, Read};
 use crate::escape::unescape;
@@ -11,7 +11,7 @@ use std::alloc::Global;
 
 /// A point set: a writer, a key and a value.
 pub(crate) fn put(alloc: Global, words: &[&[u8]]) -> Read<Event>
-    ensures { Reads result (three put (map (λ w. w.now) words.now)) }
+    ensures { ReadsSame result (three put (map (λ w. w.now) words.now)) }
 {
     match words {
         [writer, key, value] => put_of(alloc, writer, key, value),
@@ -20,7 +20,7 @@ pub(crate) fn put(alloc: Global, words: &[&[u8]]) -> Read<Event>
 }
 
 fn put_of(alloc: Global, writer: &[u8], key: &[u8], value: &[u8]) -> Read<Event>
-    ensures { Reads result (put writer.now key.now value.now) }
+    ensures { ReadsSame result (put writer.now key.now value.now) }
 {
     let writer = name_of(alloc, writer)?;
     let key = unescape(alloc, key)?;
@@ -30,7 +30,7 @@ fn put_of(alloc: Global, writer: &[u8], key: &[u8], value: &[u8]) -> Read<Event>
 
 /// A point delete: a writer and a key.
 pub(crate) fn del(alloc: Global, words: &[&[u8]]) -> Read<Event>
-    ensures { Reads result (two del (map (λ w. w.now) words.now)) }
+    ensures { ReadsSame result (two del (map (λ w. w.now) words.now)) }
 {
     match words {
         [writer, key] => del_of(alloc, writer, key),
@@ -39,7 +39,7 @@ pub(crate) fn del(alloc: Global, words: &[&[u8]]) -> Read<Event>
 }
 
 fn del_of(alloc: Global, writer: &[u8], key: &[u8]) -> Read<Event>
-    ensures { Reads result (del writer.now key.now) }
+    ensures { ReadsSame result (del writer.now key.now) }
 {
     let writer = name_of(alloc, writer)?;
     let key = unescape(alloc, key)?;
@@ -48,7 +48,7 @@ fn del_of(alloc: Global, writer: &[u8], key: &[u8]) -> Read<Event>
 
 /// A range key set: a writer, a start, an end, a suffix and a value.
 pub(crate) fn range_set(alloc: Global, words: &[&[u8]]) -> Read<Event>
-    ensures { Reads result (five range_set (map (λ w. w.now) words.now)) }
+    ensures { ReadsSame result (five range_set (map (λ w. w.now) words.now)) }
 {
     match words {
         [writer, start, end, suffix, value] => range_set_of(
@@ -66,7 +66,7 @@ fn range_set_of(
     suffix: &[u8],
     value: &[u8],
 ) -> Read<Event>
-    ensures { Reads result (range_set writer.now start.now end.now suffix.now value.now) }
+    ensures { ReadsSame result (range_set writer.now start.now end.now suffix.now value.now) }
 {
     let writer = name_of(alloc, writer)?;
     let start = unescape(alloc, start)?;
@@ -84,7 +84,7 @@ fn range_set_of(
 
 /// A range key unset: a writer, a start, an end and a suffix.
 pub(crate) fn range_unset(alloc: Global, words: &[&[u8]]) -> Read<Event>
-    ensures { Reads result (four range_unset (map (λ w. w.now) words.now)) }
+    ensures { ReadsSame result (four range_unset (map (λ w. w.now) words.now)) }
 {
     match words {
         [writer, start, end, suffix] => range_unset_of(alloc, writer, start, end, suffix),
@@ -99,7 +99,7 @@ fn range_unset_of(
     end: &[u8],
     suffix: &[u8],
 ) -> Read<Event>
-    ensures { Reads result (range_unset writer.now start.now end.now suffix.now) }
+    ensures { ReadsSame result (range_unset writer.now start.now end.now suffix.now) }
 {
     let writer = name_of(alloc, writer)?;
     let start = unescape(alloc, start)?;
@@ -115,7 +115,7 @@ fn range_unset_of(
 
 /// A range key delete: a writer, a start and an end.
 pub(crate) fn range_del(alloc: Global, words: &[&[u8]]) -> Read<Event>
-    ensures { Reads result (three range_del (map (λ w. w.now) words.now)) }
+    ensures { ReadsSame result (three range_del (map (λ w. w.now) words.now)) }
 {
     match words {
         [writer, start, end] => range_del_of(alloc, writer, start, end),
@@ -124,7 +124,7 @@ pub(crate) fn range_del(alloc: Global, words: &[&[u8]]) -> Read<Event>
 }
 
 fn range_del_of(alloc: Global, writer: &[u8], start: &[u8], end: &[u8]) -> Read<Event>
-    ensures { Reads result (range_del writer.now start.now end.now) }
+    ensures { ReadsSame result (range_del writer.now start.now end.now) }
 {
     let writer = name_of(alloc, writer)?;
     let start = unescape(alloc, start)?;

@@ -2,7 +2,7 @@
 ghost use Rattle.std.specs.Prelude.{◌≡◌, ◌<◌, ◌++◌, take, OnOk, OnErr, IfSome, length, vec_len, option_map, option_and_then};
 ghost use Rattle.rk_script.specs.Words.{hex_digit, hex_value, hex_byte, is_plain, escaped_byte, escaped_bytes, escaped, unescaped_bytes, byte_before};
 ghost use Rattle.rk_script.specs.Grammar.{bytes_of};
-ghost use Rattle.rk_script.specs.LineErrors.{Reads};
+ghost use Rattle.rk_script.specs.LineErrors.{ReadsSame};
 ghost use Rattle.rk_script.specs.Laws.{ReadsBackWhatIsPrinted};
 
 use crate::Why;
@@ -52,7 +52,7 @@ pub fn reads_back_what_is_printed()
 
 /// The bytes that a word stands for.
 pub(crate) fn unescape(alloc: Global, word: &[u8]) -> Read<Bytes>
-    ensures { Reads result (bytes_of word.now) }
+    ensures { ReadsSame result (bytes_of word.now) }
 {
     if is_word(word, b"%-") {
         return Ok(Bytes::from_vec(Vec::new(alloc)));

@@ -1,7 +1,7 @@
 // What the words of a line ask for.
 ghost use Rattle.std.specs.Prelude.{map};
 ghost use Rattle.rk_script.specs.Grammar.{event_of, line_of, one_name, two, commit, name_and_key};
-ghost use Rattle.rk_script.specs.LineErrors.{Reads};
+ghost use Rattle.rk_script.specs.LineErrors.{ReadsSame};
 
 use crate::batch::{del, put, range_del, range_set, range_unset};
 use crate::error::{LineError, Read};
@@ -17,7 +17,7 @@ use std::alloc::Global;
 
 /// What the words of a line ask for.
 pub(crate) fn event_of(alloc: Global, words: &[&[u8]]) -> Read<Event>
-    ensures { Reads result (event_of (map (λ w. w.now) words.now)) }
+    ensures { ReadsSame result (event_of (map (λ w. w.now) words.now)) }
 {
     match words {
         [word, words @ ..] => match verb_of(word) {
@@ -30,7 +30,7 @@ pub(crate) fn event_of(alloc: Global, words: &[&[u8]]) -> Read<Event>
 
 /// What a line asks for, by its first word and the words behind it.
 fn event(alloc: Global, verb: Verb, words: &[&[u8]]) -> Read<Event>
-    ensures { Reads result (line_of verb (map (λ w. w.now) words.now)) }
+    ensures { ReadsSame result (line_of verb (map (λ w. w.now) words.now)) }
 {
     match verb {
         Verb::Put => put(alloc, words),
@@ -54,7 +54,7 @@ fn event(alloc: Global, verb: Verb, words: &[&[u8]]) -> Read<Event>
 
 /// The name that the words are.
 fn one_name(alloc: Global, words: &[&[u8]]) -> Read<Bytes>
-    ensures { Reads result (one_name (map (λ w. w.now) words.now)) }
+    ensures { ReadsSame result (one_name (map (λ w. w.now) words.now)) }
 {
     match words {
         [name] => name_of(alloc, name),
@@ -64,7 +64,7 @@ fn one_name(alloc: Global, words: &[&[u8]]) -> Read<Bytes>
 
 /// An iterator, and a key to seek.
 fn seek(alloc: Global, words: &[&[u8]]) -> Read<(Bytes, UserKey)>
-    ensures { Reads result (two name_and_key (map (λ w. w.now) words.now)) }
+    ensures { ReadsSame result (two name_and_key (map (λ w. w.now) words.now)) }
 {
     match words {
         [iter, key] => seek_of(alloc, iter, key),
@@ -73,7 +73,7 @@ fn seek(alloc: Global, words: &[&[u8]]) -> Read<(Bytes, UserKey)>
 }
 
 fn seek_of(alloc: Global, iter: &[u8], key: &[u8]) -> Read<(Bytes, UserKey)>
-    ensures { Reads result (name_and_key iter.now key.now) }
+    ensures { ReadsSame result (name_and_key iter.now key.now) }
 {
     let iter = name_of(alloc, iter)?;
     let key = unescape(alloc, key)?;
@@ -83,7 +83,7 @@ fn seek_of(alloc: Global, iter: &[u8], key: &[u8]) -> Read<(Bytes, UserKey)>
 
 /// A commit: a writer. A word behind it would have to be a fixed one.
 fn commit(alloc: Global, words: &[&[u8]]) -> Read<Event>
-    ensures { Reads result (commit (map (λ w. w.now) words.now)) }
+    ensures { ReadsSame result (commit (map (λ w. w.now) words.now)) }
 {
     match words {
         [] => Err(LineError::Bad(Why::Count)),

@@ -2,7 +2,7 @@
 ghost use Rattle.std.specs.Prelude.{map};
 ghost use Rattle.std.specs.Option.{option_copied};
 ghost use Rattle.rk_script.specs.Grammar.{iter, opened, with_bounds, option_of, options_of, if_there, name_of, bytes_of, key_of, mask_of};
-ghost use Rattle.rk_script.specs.LineErrors.{Reads, ReadsAs};
+ghost use Rattle.rk_script.specs.LineErrors.{ReadsSame, ReadsAs};
 ghost use Rattle.rk_script.specs.Seen.{words_of};
 
 use crate::error::{LineError, Read};
@@ -25,7 +25,7 @@ pub(crate) struct Options<'a> {
 
 /// An iterator, and its options.
 pub(crate) fn iter(alloc: Global, words: &[&[u8]]) -> Read<Event>
-    ensures { Reads result (iter (map (λ w. w.now) words.now)) }
+    ensures { ReadsSame result (iter (map (λ w. w.now) words.now)) }
 {
     match words {
         [name, words @ ..] => opened(alloc, name, options_of(words)?),
@@ -70,7 +70,7 @@ fn option_of<'a, 'b>(
 
 /// An iterator with these options. Names are read first, and then escapes.
 fn opened(alloc: Global, name: &[u8], options: Options<'_>) -> Read<Event>
-    ensures { Reads result (opened name.now (words_of options.entry)) }
+    ensures { ReadsSame result (opened name.now (words_of options.entry)) }
 {
     let name = name_of(alloc, name)?;
     let at = name_if_there(alloc, options.at)?;
@@ -89,7 +89,7 @@ fn with_bounds(
     upper: Option<Bytes>,
     mask: Option<Bytes>,
 ) -> Read<Event>
-    ensures { Reads result (with_bounds name at lower upper mask) }
+    ensures { ReadsSame result (with_bounds name at lower upper mask) }
 {
     let lower = key_if_there(alloc, lower)?;
     let upper = key_if_there(alloc, upper)?;
@@ -104,7 +104,7 @@ fn with_bounds(
 }
 
 fn name_if_there(alloc: Global, word: Option<&[u8]>) -> Read<Option<Bytes>>
-    ensures { Reads result (if_there name_of (option_copied word.entry)) }
+    ensures { ReadsSame result (if_there name_of (option_copied word.entry)) }
 {
     match word {
         Some(word) => Ok(Some(name_of(alloc, word)?)),
@@ -113,7 +113,7 @@ fn name_if_there(alloc: Global, word: Option<&[u8]>) -> Read<Option<Bytes>>
 }
 
 fn unescape_if_there(alloc: Global, word: Option<&[u8]>) -> Read<Option<Bytes>>
-    ensures { Reads result (if_there bytes_of (option_copied word.entry)) }
+    ensures { ReadsSame result (if_there bytes_of (option_copied word.entry)) }
 {
     match word {
         Some(word) => Ok(Some(unescape(alloc, word)?)),
@@ -122,7 +122,7 @@ fn unescape_if_there(alloc: Global, word: Option<&[u8]>) -> Read<Option<Bytes>>
 }
 
 fn key_if_there(alloc: Global, bytes: Option<Bytes>) -> Read<Option<UserKey>>
-    ensures { Reads result (if_there key_of bytes) }
+    ensures { ReadsSame result (if_there key_of bytes) }
 {
     match bytes {
         Some(bytes) => Ok(Some(key_of(alloc, bytes.bytes())?)),
@@ -131,7 +131,7 @@ fn key_if_there(alloc: Global, bytes: Option<Bytes>) -> Read<Option<UserKey>>
 }
 
 fn mask_if_there(alloc: Global, bytes: Option<Bytes>) -> Read<Option<Suffix>>
-    ensures { Reads result (if_there mask_of bytes) }
+    ensures { ReadsSame result (if_there mask_of bytes) }
 {
     match bytes {
         Some(bytes) => Ok(Some(mask_of(alloc, bytes.bytes())?)),

@@ -2,7 +2,7 @@
 ghost use Rattle.std.specs.Prelude.{Ok, Err, if◌then◌else◌};
 ghost use Rattle.rk_key.specs.KeyTests.{is_suffix};
 ghost use Rattle.rk_script.specs.Grammar.{key_of, mask_of};
-ghost use Rattle.rk_script.specs.LineErrors.{Reads};
+ghost use Rattle.rk_script.specs.LineErrors.{ReadsSame};
 
 use crate::Why;
 use crate::error::{LineError, Read};
@@ -11,7 +11,7 @@ use std::alloc::Global;
 
 /// The key that the bytes are.
 pub(crate) fn key_of(alloc: Global, bytes: &[u8]) -> Read<UserKey>
-    ensures { Reads result (key_of bytes.now) }
+    ensures { ReadsSame result (key_of bytes.now) }
 {
     match read_key(alloc, bytes) {
         Ok(key) => Ok(key),
@@ -22,7 +22,7 @@ pub(crate) fn key_of(alloc: Global, bytes: &[u8]) -> Read<UserKey>
 
 /// The suffix that the bytes are, which is not empty.
 pub(crate) fn mask_of(alloc: Global, bytes: &[u8]) -> Read<Suffix>
-    ensures { Reads result (mask_of bytes.now) }
+    ensures { ReadsSame result (mask_of bytes.now) }
 {
     if bytes.is_empty() {
         return Err(LineError::Bad(Why::Suffix));
@@ -32,7 +32,7 @@ pub(crate) fn mask_of(alloc: Global, bytes: &[u8]) -> Read<Suffix>
 
 /// The suffix that the bytes are.
 fn suffix_of(alloc: Global, bytes: &[u8]) -> Read<Suffix>
-    ensures { Reads result (if is_suffix bytes.now then Ok bytes.now else Err Why.Suffix) }
+    ensures { ReadsSame result (if is_suffix bytes.now then Ok bytes.now else Err Why.Suffix) }
 {
     match read_suffix(alloc, bytes) {
         Ok(suffix) => Ok(suffix),

@@ -1,6 +1,6 @@
 // A whole file.
 ghost use Rattle.std.specs.Prelude.{◌≡◌, IfOk, IfErr, Ok};
-ghost use Rattle.rk_script.specs.LineErrors.{Reads};
+ghost use Rattle.rk_script.specs.LineErrors.{ReadsSame};
 ghost use Rattle.rk_script.specs.Script.{accepted_event, script, IsScriptRefusal};
 
 use crate::error::{LineError, Read};
@@ -41,7 +41,7 @@ pub fn read_script(alloc: Global, bytes: &[u8]) -> Result<Vec<Line>, ScriptError
 
 /// What a line asks for, where the live names let it stand.
 fn accepted_event(alloc: Global, names: &LiveNames, line: &[u8]) -> Read<Event>
-    ensures { Reads result (accepted_event names.now line.now) }
+    ensures { ReadsSame result (accepted_event names.now line.now) }
 {
     if !is_printable(line) {
         return Err(LineError::Bad(Why::Byte));

@@ -3,7 +3,7 @@ ghost use Rattle.std.specs.Prelude.{◌≡◌, ◌==◌, IfOk, map};
 ghost use Rattle.std.specs.List.{list_all};
 ghost use Rattle.rk_model.specs.Spans.{same_bytes};
 ghost use Rattle.rk_script.specs.Grammar.{name_of};
-ghost use Rattle.rk_script.specs.LineErrors.{Reads};
+ghost use Rattle.rk_script.specs.LineErrors.{ReadsSame};
 ghost use Rattle.rk_script.specs.Words.{words, space, is_skipped, is_printable, is_name, is_name_byte};
 
 use crate::Why;
@@ -46,7 +46,7 @@ pub(crate) fn is_printable(line: &[u8]) -> bool
 
 /// The name that a word is.
 pub(crate) fn name_of(alloc: Global, word: &[u8]) -> Read<Bytes>
-    ensures { Reads result (name_of word.now) }
+    ensures { ReadsSame result (name_of word.now) }
 {
     if is_name(word) {
         Ok(Bytes::from_slice(alloc, word)?)

@@ -1,11 +1,15 @@
 //! Tests of sources and of what they stand on: lists in memory, cells, fragments, chunks and memtables, merged points
-//! and merged spans.
+//! and merged spans, also over a source that reads blocks, and sources cut at bounds.
 //!
 //! A contract says what a call answers where it finds memory. These tests show that with ample memory each public
 //! call does so, on rows worked out by hand. They stand above what they test, so that no crate is proved twice for
 //! its tests.
 #![tactic(auto)]
 
+#[cfg(test)]
+mod blocks;
+#[cfg(test)]
+mod bounds;
 #[cfg(test)]
 mod cells;
 #[cfg(test)]
@@ -15,6 +19,10 @@ mod lists;
 #[cfg(test)]
 mod memory;
 #[cfg(test)]
+mod paged;
+#[cfg(test)]
 mod points;
 #[cfg(test)]
 mod spans;
+#[cfg(test)]
+mod walks;

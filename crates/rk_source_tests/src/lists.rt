@@ -1,8 +1,8 @@
 // Sources over lists in memory.
 use rk_key::{read_key, read_suffix};
 use rk_model::{
-    Cursor, Entry, ListPoints, ListSpans, Op, RangeKey, RangeKeys, RangeKind, Span, SpanSource,
-    SuffixValue, points_before, points_from,
+    Cursor, Cut, Entry, ListPoints, ListSpans, Op, RangeKey, RangeKeys, RangeKind, Span,
+    SpanSource, SuffixValue, points_before, points_from,
 };
 use rk_outside::{Bytes, Counting, NoReads};
 use std::alloc::Global;
@@ -35,10 +35,10 @@ fn a_list_is_read_both_ways(rt: HostRuntime) -> Result<(), Fail> {
     }
     let mut source = ListPoints::new(entries);
     let b = read_key(alloc, b"b")?;
-    let on = points_from(alloc, &mut source, &mut NoReads, &b)?;
-    assert!(rt; have_numbers(&on, &[2, 4]));
-    let back = points_before(alloc, &mut source, &mut NoReads, &b)?;
-    assert!(rt; have_numbers(&back, &[1, 3]));
+    let forward = points_from(alloc, &mut source, &mut NoReads, Cut::Below(&b))?;
+    assert!(rt; have_numbers(&forward, &[2, 4]));
+    let backward = points_before(alloc, &mut source, &mut NoReads, Cut::Below(&b))?;
+    assert!(rt; have_numbers(&backward, &[1, 3]));
     Ok(())
 }
 
@@ -79,16 +79,16 @@ fn a_span_is_found_by_its_end_and_by_its_start(rt: HostRuntime) -> Result<(), Fa
     Ok(())
 }
 
-// One step, where there is a place, and the number of the newest range key behind it.
+// One step, where there is a span, and the number of the newest range key then.
 fn stepped<R: Counting, S: SpanSource<R>>(
     source: &mut S,
     reader: &mut R,
-    ahead: bool,
+    forward: bool,
 ) -> Result<Option<u64>, Fail> {
     let Some(_span) = source.here() else {
         return Ok(None);
     };
-    if ahead {
+    if forward {
         source.next(reader)?;
     } else {
         source.prev(reader)?;
@@ -107,14 +107,14 @@ fn spans_are_walked_to_both_ends(rt: HostRuntime) -> Result<(), Fail> {
     let c = read_key(alloc, b"c")?;
     let mut reader = NoReads;
     source.seek_lt(&mut reader, &c)?;
-    for (ahead, number) in [
+    for (forward, number) in [
         (true, Some(2)),
         (true, Some(3)),
         (false, Some(2)),
         (false, Some(1)),
         (false, None),
     ] {
-        assert_eq!(rt; stepped(&mut source, &mut reader, ahead)?, number);
+        assert_eq!(rt; stepped(&mut source, &mut reader, forward)?, number);
     }
     Ok(())
 }

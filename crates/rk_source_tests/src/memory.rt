@@ -1,7 +1,7 @@
 // Memtables of a few entries, and of many.
 use rk_key::read_key;
 use rk_mem::{Chunk, ChunkPoints, ChunkSpans};
-use rk_model::{Entry, SpanSource, points_before, points_from};
+use rk_model::{Cut, Entry, SpanSource, points_before, points_from};
 use rk_outside::{Counting, NoReads};
 use std::alloc::Global;
 use std::sync::Arc;
@@ -76,14 +76,15 @@ fn points_of_a_chunk(rt: HostRuntime) -> Result<(), Fail> {
     let alloc = rt.alloc();
     let chunk = puts(alloc, 2)?.memtable().pin()?.pop();
     let mut points = ChunkPoints::new(alloc, chunk.ok_or("there is no chunk")?)?;
-    let ahead = points_from(alloc, &mut points, &mut NoReads, &read_key(alloc, b"a")?)?;
-    assert_eq!(rt; numbers(alloc, &ahead)?.as_slice(), [2, 1].as_slice());
-    let back = points_before(alloc, &mut points, &mut NoReads, &read_key(alloc, b"b")?)?;
-    assert_eq!(rt; numbers(alloc, &back)?.as_slice(), [1, 2].as_slice());
+    let a = read_key(alloc, b"a")?;
+    let forward = points_from(alloc, &mut points, &mut NoReads, Cut::Below(&a))?;
+    assert_eq!(rt; numbers(alloc, &forward)?.as_slice(), [2, 1].as_slice());
+    let backward = points_before(alloc, &mut points, &mut NoReads, Cut::Past(&a))?;
+    assert_eq!(rt; numbers(alloc, &backward)?.as_slice(), [1, 2].as_slice());
     Ok(())
 }
 
-/// The number of the newest range key here, from which it goes one place on.
+/// The number of the newest range key here, from which it goes one span on.
 fn pass<R: Counting, S: SpanSource<R>>(spans: &mut S, reader: &mut R) -> Result<Option<u64>, Fail> {
     let Some(span) = spans.here() else {
         return Ok(None);
@@ -93,7 +94,7 @@ fn pass<R: Counting, S: SpanSource<R>>(spans: &mut S, reader: &mut R) -> Result<
     Ok(newest)
 }
 
-/// The same one place back.
+/// The same one span back.
 fn pass_back<R: Counting, S: SpanSource<R>>(
     spans: &mut S,
     reader: &mut R,

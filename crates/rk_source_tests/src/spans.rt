@@ -1,7 +1,7 @@
 // Merged spans, by hand.
-use rk_key::read_key;
-use rk_model::{ListSpans, RangeKey, RangeKeys, RangeKind, Span, SpanSource};
-use rk_outside::{Bytes, NoReads};
+use rk_key::{UserKey, read_key};
+use rk_model::{Cut, ListSpans, RangeKey, RangeKeys, RangeKind, Span, SpanSource};
+use rk_outside::{Bytes, Counting, NoReads};
 use rk_spanmerge::SpanMerge;
 use std::alloc::Global;
 use std::test::Fail;
@@ -39,9 +39,10 @@ fn merge(alloc: Global) -> Result<Merge, Fail> {
     Ok(SpanMerge::new(alloc, sources)?)
 }
 
-fn shows(merge: &Merge, wanted: Wanted) -> bool {
+/// Whether a source shows the span that is wanted.
+fn shows<R: Counting, S: SpanSource<R>>(spans: &S, wanted: Wanted) -> bool {
     let (start, end, numbers) = wanted;
-    let Some(span) = <Merge as SpanSource<NoReads>>::here(merge) else {
+    let Some(span) = spans.here() else {
         return false;
     };
     let keys = span.keys.as_slice();
@@ -52,34 +53,53 @@ fn shows(merge: &Merge, wanted: Wanted) -> bool {
 }
 
 /// One step, where there is a span.
-fn step(merge: &mut Merge, ahead: bool) -> Result<(), Fail> {
-    if <Merge as SpanSource<NoReads>>::here(merge).is_some() {
-        if ahead {
-            merge.next(&mut NoReads)?;
+fn step<R: Counting, S: SpanSource<R>>(
+    spans: &mut S,
+    reader: &mut R,
+    forward: bool,
+) -> Result<(), Fail> {
+    if spans.here().is_some() {
+        if forward {
+            spans.next(reader)?;
         } else {
-            merge.prev(&mut NoReads)?;
+            spans.prev(reader)?;
         }
     }
     Ok(())
 }
 
-/// Steps, each on or back, and whether each led to the span that is wanted.
-fn leads(merge: &mut Merge, steps: &[(bool, Wanted)]) -> Result<bool, Fail> {
-    for (ahead, wanted) in steps {
-        step(merge, *ahead)?;
-        if !shows(merge, *wanted) {
+/// Whether a seek of a key, and then steps, each forward or backward, lead each to the span that is wanted. The last
+/// step leads to none, where that is said.
+fn leads<R: Counting, S: SpanSource<R>>(
+    spans: &mut S,
+    reader: &mut R,
+    key: Cut<&UserKey>,
+    forward: bool,
+    first: Wanted,
+    steps: &[(bool, Wanted)],
+    beyond: Option<bool>,
+) -> Result<bool, Fail> {
+    spans.seek(reader, key, forward)?;
+    if !shows::<R, S>(spans, first) {
+        return Ok(false);
+    }
+    for (forward, wanted) in steps {
+        step(spans, reader, *forward)?;
+        if !shows::<R, S>(spans, *wanted) {
             return Ok(false);
         }
     }
-    Ok(true)
+    let Some(forward) = beyond else {
+        return Ok(true);
+    };
+    step(spans, reader, forward)?;
+    Ok(spans.here().is_none())
 }
 
 #[test]
 fn turns_at_each_place(rt: HostRuntime) -> Result<(), Fail> {
-    let alloc = rt.alloc();
-    let mut merge = merge(alloc)?;
-    merge.seek_lt(&mut NoReads, &read_key(alloc, b"z")?)?;
-    assert!(rt; shows(&merge, (b"c", b"d", &[2])));
+    let mut merge = merge(rt.alloc())?;
+    let end = read_key(rt.alloc(), b"z")?;
     let steps: [(bool, Wanted); 6] = [
         (false, (b"b", b"c", &[2, 1])),
         (true, (b"c", b"d", &[2])),
@@ -88,9 +108,17 @@ fn turns_at_each_place(rt: HostRuntime) -> Result<(), Fail> {
         (true, (b"b", b"c", &[2, 1])),
         (false, (b"a", b"b", &[1])),
     ];
-    assert!(rt; leads(&mut merge, &steps)?);
-    step(&mut merge, false)?;
-    assert!(rt; <Merge as SpanSource<NoReads>>::here(&merge).is_none());
+    assert!(rt;
+        leads(
+            &mut merge,
+            &mut NoReads,
+            Cut::Below(&end),
+            false,
+            (b"c", b"d", &[2]),
+            &steps,
+            Some(false),
+        )?
+    );
     Ok(())
 }
 
@@ -101,26 +129,40 @@ fn over_a_gap(rt: HostRuntime) -> Result<(), Fail> {
     sources.push(list(alloc, span(alloc, b"a", b"b", 1)?)?)?;
     sources.push(list(alloc, span(alloc, b"c", b"d", 2)?)?)?;
     let mut merge = SpanMerge::new(alloc, sources)?;
-    merge.seek_ge(&mut NoReads, &read_key(alloc, b"b")?)?;
-    assert!(rt; shows(&merge, (b"c", b"d", &[2])));
+    let b = read_key(alloc, b"b")?;
     let steps: [(bool, Wanted); 2] = [(false, (b"a", b"b", &[1])), (true, (b"c", b"d", &[2]))];
-    assert!(rt; leads(&mut merge, &steps)?);
-    step(&mut merge, true)?;
-    assert!(rt; <Merge as SpanSource<NoReads>>::here(&merge).is_none());
+    assert!(rt;
+        leads(
+            &mut merge,
+            &mut NoReads,
+            Cut::Below(&b),
+            true,
+            (b"c", b"d", &[2]),
+            &steps,
+            Some(true),
+        )?
+    );
     Ok(())
 }
 
 #[test]
 fn on_and_back(rt: HostRuntime) -> Result<(), Fail> {
-    let alloc = rt.alloc();
-    let mut merge = merge(alloc)?;
-    merge.seek_ge(&mut NoReads, &read_key(alloc, b"a")?)?;
-    assert!(rt; shows(&merge, (b"a", b"b", &[1])));
+    let mut merge = merge(rt.alloc())?;
     let steps: [(bool, Wanted); 3] = [
         (true, (b"b", b"c", &[2, 1])),
         (true, (b"c", b"d", &[2])),
         (false, (b"b", b"c", &[2, 1])),
     ];
-    assert!(rt; leads(&mut merge, &steps)?);
+    assert!(rt;
+        leads(
+            &mut merge,
+            &mut NoReads,
+            Cut::Start,
+            true,
+            (b"a", b"b", &[1]),
+            &steps,
+            None,
+        )?
+    );
     Ok(())
 }

@@ -1,13 +1,7 @@
 pub mod Chains
-pub mod Ends
-pub mod Sources
-pub mod Pools
-pub mod Shown
-pub mod Finds
-pub mod Told
-pub mod Passing
-pub mod StepReads
-pub mod Places
 pub mod Cutting
-pub mod Differing
+pub mod Pools
+pub mod Gaps
+pub mod Calls
+pub mod Found
 mod Examples

@@ -1,93 +1,92 @@
--- The pool of the spans of all sources.
+-- The pool of the spans of all sources, and a merge of them that is told.
 use Prim.Native.Nat.{zero, suc}
-use Rattle.std.proofs.Common.{◌≡◌, ℕ, ◌<◌, length, get_or, Bool, true, false, ◌&&◌, cond, List, [], ◌∷◌, ◌++◌, Option, Some, None, is_some, unwrap_or, IfSome, refl, ap, sym, ◌∙◌, ◌⊎◌, inl, inr, arith, append_assoc}
-use Rattle.std.specs.Prelude.{IsTrue}
-use Rattle.std.specs.List.{list_all}
+use Rattle.std.proofs.Common.{◌≡◌, ℕ, ◌<◌, length, get_or, Bool, true, false, ◌&&◌, cond, List, [], ◌∷◌, ◌++◌, Option, Some, None, is_some, unwrap_or, IfSome, map, refl, ap, ◌∙◌, inl, inr, subst, arith}
+use Rattle.std.specs.Prelude.{IsTrue, filter}
+use Rattle.std.specs.List.{flat_map}
+use Rattle.std.proofs.lemmas.Grind.{flat_map-append}
+use Rattle.rk_model.proofs.Positions.{filter-append}
+use Rattle.rk_key.specs.Keys.{IsKey}
+use Rattle.rk_key.specs.KeyTests.{is_key}
+use Rattle.rk_key.proofs.KeyTests.{key_by_test}
 use Rattle.rk_model.specs.Operations.{within}
 use Rattle.rk_model.specs.Lists.{none_of}
-use Rattle.rk_model.specs.Sources.{Seen, are_spans}
+use Rattle.rk_model.specs.Items.{keyed_spans}
+use Rattle.rk_model.specs.Standings.{Listing}
 use Rattle.rk_model.specs.declared.span.Span.{Span}
+use Rattle.rk_model.proofs.Members.{all_among, every_gives, among_append, among_map, among_flat_map}
 use Rattle.rk_fragment.specs.Fragments.{keys_over}
 use Rattle.rk_merge.specs.Unions.{Among}
-use Rattle.rk_model.proofs.Members.{among_append, among_left, among_right}
-use Rattle.rk_merge.specs.Several.{all_rest, told_items}
-use Rattle.rk_merge.proofs.Lists.{and_parts}
+use Rattle.rk_merge.specs.Pools.{told_items, all_told}
+use Rattle.rk_merge.proofs.Lists.{and_parts, at_among}
 use Rattle.rk_spanmerge.specs.Merges.{span_ends, pooled, united, are_distinct, cut_spans}
 use Rattle.rk_spanmerge.specs.Moves.{lt}
-use Rattle.rk_spanmerge.proofs.Sources.{rest_united, rest_pooled}
-use Rattle.rk_spanmerge.proofs.Chains.{Chain, chain_of, proper_of, keys_over_cons}
+use Rattle.rk_spanmerge.proofs.Chains.{Chain, chain_of, proper_of}
+use Rattle.rk_spanmerge.proofs.Cutting.{distinct_keys, ends_from}
 
-pub told_if : {A : Type 0} (h : Option (List A)) (P : List A → Type 0) → is_some h ≡ true → IfSome h P → P (unwrap_or h [])
-told_if None P e w = cc
-told_if (Some xs) P e w = w
+-- what holds of a merge that is told
+pub if_told : {A : Type 0} {P : A → Type 0} (u : Option A) → ((x : A) → u ≡ Some x → P x) → IfSome u P
+if_told None f = tt
+if_told (Some x) f = f x refl
 
--- a merge that is told
-pub record Whole {S : Type 0} (seen : S → Seen Span) (ss : List S) (spans : List Span) : Type 0 where
-  pub told : list_all (λ s. is_some (seen s).held) ss ≡ true
-  pub distinct : are_distinct (span_ends (pooled seen ss)) ≡ true
-  pub sound : are_spans spans ≡ true
-  pub is : cut_spans (pooled seen ss) ≡ spans
+pub told_if : {A : Type 0} (P : A → Type 0) (u : Option A) (x : A) → u ≡ Some x → IfSome u P → P x
+told_if P None x e w = cc
+told_if P (Some y) x e w = let q : y ≡ x = cc in subst P q w
 
-pub whole : {S : Type 0} (seen : S → Seen Span) (ss : List S) (spans : List Span) → united seen ss ≡ Some spans → Whole seen ss spans
-whole seen ss spans e = go (list_all (λ s. is_some (seen s).held) ss) (are_distinct (span_ends (pooled seen ss))) (are_spans (cut_spans (pooled seen ss))) refl refl refl e
+told_list : {A : Type 0} (h : Option (List A)) (P : List A → Type 0) → is_some h ≡ true → IfSome h P → P (unwrap_or h [])
+told_list None P e w = cc
+told_list (Some xs) P e w = w
+
+pub record Whole (ls : List (Listing Span)) (spans : List Span) : Type 0 where
+  pub told : all_told ls ≡ true
+  pub chain : Chain spans
+  pub is : cut_spans (pooled ls) ≡ spans
+
+pub whole : (ls : List (Listing Span)) (spans : List Span) → united ls ≡ Some spans → Whole ls spans
+whole ls spans e = go (all_told ls) (keyed_spans (cut_spans (pooled ls))) refl refl e
   where
-    go : (a b c : Bool) → list_all (λ s. is_some (seen s).held) ss ≡ a → are_distinct (span_ends (pooled seen ss)) ≡ b → are_spans (cut_spans (pooled seen ss)) ≡ c → cond (a && b) (cond c (Some (cut_spans (pooled seen ss))) None) None ≡ Some spans → Whole seen ss spans
-    go true true true p q r e = let is : cut_spans (pooled seen ss) ≡ spans = cc in record { told = p; distinct = q; sound = ap are_spans (sym is) ∙ r; is = is }
-    go true true false p q r e = cc
-    go true false c p q r e = cc
-    go false b c p q r e = cc
+    go : (a b : Bool) → all_told ls ≡ a → keyed_spans (cut_spans (pooled ls)) ≡ b → cond a (cond b (Some (cut_spans (pooled ls))) None) None ≡ Some spans → Whole ls spans
+    go true true p q e = let is : cut_spans (pooled ls) ≡ spans = cc in record { told = p; chain = subst Chain is (chain_of _ (and_parts _ _ q).0); is = is }
+    go true false p q e = cc
+    go false b p q e = cc
 
-pub told_at : {S : Type 0} (seen : S → Seen Span) (ss : List S) → list_all (λ s. is_some (seen s).held) ss ≡ true → (k : ℕ) (d : S) → k < length ss → is_some (seen (get_or ss k d)).held ≡ true
-told_at seen [] e k d h = absurd (omega arith)
-told_at seen (s ∷ ss) e zero d h = (and_parts (is_some (seen s).held) (list_all (λ s. is_some (seen s).held) ss) e).0
-told_at seen (s ∷ ss) e (suc k) d h = told_at seen ss (and_parts (is_some (seen s).held) (list_all (λ s. is_some (seen s).held) ss) e).1 k d (omega arith)
+pub told_at : {S : Type 0} (listing : S → Listing Span) (ss : List S) → all_told (map listing ss) ≡ true → (k : ℕ) (d : S) → k < length ss → is_some (listing (get_or ss k d)).held ≡ true
+told_at listing ss e k d h = every_gives (λ l. is_some l.held) (map listing ss) (listing (get_or ss k d)) e (among_map listing ss (get_or ss k d) (at_among ss k d h))
 
--- the pool of spans, and their ends
-pub in_pool : {S : Type 0} (seen : S → Seen Span) (ss : List S) (k : ℕ) (d : S) (t : Span) → k < length ss → Among t (told_items (seen (get_or ss k d))) → Among t (pooled seen ss)
-in_pool seen [] k d t h m = absurd (omega arith)
-in_pool seen (s ∷ ss) zero d t h m = among_left (told_items (seen s)) (pooled seen ss) t m
-in_pool seen (s ∷ ss) (suc k) d t h m = among_right (told_items (seen s)) (pooled seen ss) t (in_pool seen ss k d t (omega arith) m)
+-- the pool of spans: what holds of the spans of each source holds of it
+pub in_pool : {S : Type 0} (listing : S → Listing Span) (ss : List S) (k : ℕ) (d : S) (t : Span) → k < length ss → Among t (told_items (listing (get_or ss k d))) → Among t (pooled (map listing ss))
+in_pool listing ss k d t h m = among_flat_map told_items (map listing ss) (listing (get_or ss k d)) t (among_map listing ss (get_or ss k d) (at_among ss k d h)) m
 
--- what holds of the spans of each source holds of the pool
-pub all_pool : {S : Type 0} (seen : S → Seen Span) (P : Span → Type 0) (ss : List S) → ((k : ℕ) (d : S) → k < length ss → (t : Span) → Among t (told_items (seen (get_or ss k d))) → P t) → (t : Span) → Among t (pooled seen ss) → P t
-all_pool seen P [] h t m = absurd m
-all_pool {S} seen P (s ∷ ss) h t m = go (among_append (told_items (seen s)) (pooled seen ss) t m) (all_pool seen P ss (λ k d l u n. h (suc k) d (omega arith) u n) t)
-  where
-    go : Among t (told_items (seen s)) ⊎ Among t (pooled seen ss) → (Among t (pooled seen ss) → P t) → P t
-    go (inl n) ih = h zero s (omega arith) t n
-    go (inr n) ih = ih n
-
-pub ends_in : (ss : List Span) (t : Span) → Among t ss → Among t.start (span_ends ss) × Among t.end (span_ends ss)
-ends_in [] t m = absurd m
-ends_in (s ∷ ss) t (inl e) = (inl (ap (λ z. z.start) e), inr (inl (ap (λ z. z.end) e)))
-ends_in (s ∷ ss) t (inr m) = let ih = ends_in ss t m in (inr (inr ih.0), inr (inr ih.1))
-
-pub ends_from : (ss : List Span) (k : List ℕ) → Among k (span_ends ss) → (t : Span) × Among t ss × ((k ≡ t.start) ⊎ (k ≡ t.end))
-ends_from [] k m = absurd m
-ends_from (s ∷ ss) k (inl e) = (s, inl refl, inl e)
-ends_from (s ∷ ss) k (inr (inl e)) = (s, inl refl, inr e)
-ends_from (s ∷ ss) k (inr (inr m)) = let ih = ends_from ss k m in (ih.0, inr ih.1, ih.2)
+pub all_pool : {S : Type 0} (listing : S → Listing Span) (P : Span → Type 0) (ss : List S) → ((k : ℕ) (d : S) → k < length ss → (t : Span) → Among t (told_items (listing (get_or ss k d))) → P t) → (t : Span) → Among t (pooled (map listing ss)) → P t
+all_pool listing P [] h t m = absurd m
+all_pool listing P (s ∷ ss) h t m =
+    let rest = all_pool listing P ss (λ k d l u n. h (suc k) d (omega arith) u n) t in
+    elim (among_append (told_items (listing s)) (pooled (map listing ss)) t m) [ inl n ↦ h zero s (omega arith) t n | inr n ↦ rest n ]
 
 pub keys_over_append : (x : List ℕ) (ss ts : List Span) → keys_over (ss ++ ts) x ≡ keys_over ss x ++ keys_over ts x
-keys_over_append x [] ts = refl
-keys_over_append x (s ∷ ss) ts =
-    keys_over_cons s (ss ++ ts) x
-    ∙ ap (λ r. cond (within s.start s.end x) s.keys [] ++ r) (keys_over_append x ss ts)
-    ∙ sym (append_assoc (cond (within s.start s.end x) s.keys []) (keys_over ss x) (keys_over ts x))
-    ∙ ap (λ r. r ++ keys_over ts x) (sym (keys_over_cons s ss x))
-
--- what is told of sources that no call has changed
-pub told_before : {S : Type 0} (seen : S → Seen Span) (P : List Span → List Span → Type 0) (olds news : List S) → all_rest seen news ≡ all_rest seen olds → IfSome (united seen news) (P (pooled seen news)) → IfSome (united seen olds) (P (pooled seen olds))
-told_before seen P olds news same w = rw (sym (rest_united seen news olds same), sym (rest_pooled seen news olds same)) w
+keys_over_append x ss ts = ap (flat_map (λ s. s.keys)) (filter-append (λ s. within s.start s.end x) ss ts) ∙ flat_map-append (λ (s : Span). s.keys) (filter (λ s. within s.start s.end x) ss) (filter (λ s. within s.start s.end x) ts)
 
 -- the lists of sources that are told
-module _ {S : Type 0} (seen : S → Seen Span) (sorted : (s : S) → IfSome (seen s).held (λ xs. IsTrue (are_spans xs))) (ss : List S) where
-  pub chain_at : list_all (λ s. is_some (seen s).held) ss ≡ true → (k : ℕ) (d : S) → k < length ss → Chain (told_items (seen (get_or ss k d)))
-  chain_at told k d h = told_if (seen (get_or ss k d)).held (λ l. Chain l) (told_at seen ss told k d h) (chains (seen (get_or ss k d)).held (sorted (get_or ss k d)))
-    where
-      chains : (h : Option (List Span)) → IfSome h (λ l. IsTrue (are_spans l)) → IfSome h (λ l. Chain l)
-      chains None w = tt
-      chains (Some l) w = chain_of l w
+module _ {S : Type 0} (listing : S → Listing Span) (sorted : (s : S) → IfSome (listing s).held (λ xs. IsTrue (keyed_spans xs))) (ss : List S) where
+  keyed_at : all_told (map listing ss) ≡ true → (k : ℕ) (d : S) → k < length ss → keyed_spans (told_items (listing (get_or ss k d))) ≡ true
+  keyed_at told k d h = told_list (listing (get_or ss k d)).held (λ l. keyed_spans l ≡ true) (told_at listing ss told k d h) (sorted (get_or ss k d))
 
-  pub pool_proper : list_all (λ s. is_some (seen s).held) ss ≡ true → (t : Span) → Among t (pooled seen ss) → (lt t.start t.end ≡ true) × (none_of t.keys ≡ false)
-  pool_proper told = all_pool seen (λ t. (lt t.start t.end ≡ true) × (none_of t.keys ≡ false)) ss (λ k d h t m. proper_of (told_items (seen (get_or ss k d))) (chain_at told k d h) t m)
+  pub chain_at : all_told (map listing ss) ≡ true → (k : ℕ) (d : S) → k < length ss → Chain (told_items (listing (get_or ss k d)))
+  chain_at told k d h = chain_of _ (and_parts _ _ (keyed_at told k d h)).0
+
+  pool_distinct : all_told (map listing ss) ≡ true → are_distinct (span_ends (pooled (map listing ss))) ≡ true
+  pool_distinct told = distinct_keys (span_ends (pooled (map listing ss))) (all_among IsKey _ (λ k m.
+      let f = ends_from true (pooled (map listing ss)) k m in
+      let keys = and_parts _ _ (all_pool listing (λ t. is_key t.start && is_key t.end ≡ true) ss (λ k d h t m. every_gives (λ s. is_key s.start && is_key s.end) _ t (and_parts _ _ (keyed_at told k d h)).1 m) f.0 f.1) in
+      elim f.2 [ inl e ↦ rw e (key_by_test f.0.start keys.0) | inr e ↦ rw e (key_by_test f.0.end keys.1) ]))
+
+  -- a merge of them that is told
+  pub record Unites (spans : List Span) : Type 0 where
+    pub at : united (map listing ss) ≡ Some spans
+    pub whole : Whole (map listing ss) spans
+    pub distinct : are_distinct (span_ends (pooled (map listing ss))) ≡ true
+    pub proper : (t : Span) → Among t (pooled (map listing ss)) → (lt t.start t.end ≡ true) × (none_of t.keys ≡ false)
+
+  pub when_told : {P : List Span → Type 0} → ((spans : List Span) → Unites spans → P spans) → IfSome (united (map listing ss)) P
+  when_told f = if_told (united (map listing ss)) (λ spans u.
+      let w = whole (map listing ss) spans u in
+      f spans (record { at = u; whole = w; distinct = pool_distinct w.told; proper = all_pool listing _ ss (λ k d h t m. proper_of _ (chain_at w.told k d h) t m) }))

@@ -1,16 +1,18 @@
 -- What a merge of sources of spans is: the spans of all of them, cut at each other's ends.
-use Rattle.std.specs.Prelude.{◌≡◌, IsTrue, ℕ, ◌*◌, ◌+◌, ◌-◌, ◌^◌, nat_lt, Bool, true, false, ◌&&◌, ◌||◌, not, List, [], ◌∷◌, length, slice_get, if◌then◌else◌, Option, Some, None, is_some, option_map}
+use Rattle.std.specs.Prelude.{◌≡◌, IsTrue, ℕ, ◌*◌, ◌+◌, Bool, ◌||◌, not, List, [], ◌∷◌, length, map, if◌then◌else◌, Option, Some, None}
 use Rattle.std.specs.List.{AllByRecursion, list_all, flat_map}
-use Rattle.std.specs.Option.{option_map_or}
-use Rattle.std.specs.Ordering.{is_eq}
+use Rattle.std.specs.Ordering.{is_eq, is_lt}
 use Rattle.rk_key.specs.Keys.{key_cmp, IsKey}
-use Rattle.rk_model.specs.Sources.{Seen, before_cut, item_at, spans_begun, spans_ended, are_spans, sound_spans}
+use Rattle.rk_model.specs.Sources.{are_spans}
 use Rattle.rk_model.specs.Spans.{sorted_keys, same_bytes}
+use Rattle.rk_model.specs.Cuts.{count_before, item_from}
+use Rattle.rk_model.specs.Items.{span_beside, keyed_spans, sound}
+use Rattle.rk_model.specs.Standings.{Listing, Standing}
 use Rattle.rk_model.specs.declared.span.RangeKey.{RangeKey}
 use Rattle.rk_model.specs.declared.span.Span.{Span}
-use Rattle.rk_model.specs.Reads.{sum_to}
 use Rattle.rk_fragment.specs.Fragments.{newest_first, spans_between, keys_over, KeysDiffer}
-use Rattle.rk_merge.specs.Several.{total, any_names, told_items}
+use Rattle.rk_merge.specs.Pools.{total}
+use Rattle.rk_merge.specs.Pools.{told_items, all_told, some_names}
 
 -- the starts and ends of spans
 abbrev pub span_ends : List Span → List (List ℕ)
@@ -27,15 +29,6 @@ cut_spans ss = spans_between (keys_at ss) (sorted_keys (span_ends ss))
 -- keys that no order tells apart are one key, as keys are that were read
 abbrev pub are_distinct : List (List ℕ) → Bool
 are_distinct xs = list_all (λ x. list_all (λ y. not (is_eq (key_cmp x y)) || same_bytes x y) xs) xs
-
-abbrev pub pooled : {S : Type 0} → (S → Seen Span) → List S → List Span
-pooled seen ss = flat_map (λ s. told_items (seen s)) ss
-
--- The merge's list, where each source is told, no order takes two ends for one, and no two range keys over one key
--- have one number.
-abbrev pub united : {S : Type 0} → (S → Seen Span) → List S → Option (List Span)
-united seen ss =
-    if list_all (λ s. is_some (seen s).held) ss && are_distinct (span_ends (pooled seen ss)) then sound_spans (cut_spans (pooled seen ss)) else None
 
 -- keys that were read are distinct
 abbrev pub ReadKeysAreDistinct : Type 0
@@ -54,71 +47,68 @@ SortedCutsDiffer = (ss : List Span) (x : List ℕ) → IsTrue (are_distinct (spa
 abbrev pub EachKeyHasItsRangeKeys : Type 0
 EachKeyHasItsRangeKeys = (ss : List Span) (x : List ℕ) → IsTrue (are_distinct (span_ends ss)) → keys_over (cut_spans ss) x ≡ keys_at ss x
 
--- the end at which a step leaves a span
-abbrev pub left_end : Bool → Span → List ℕ
-left_end ahead c = if ahead then c.end else c.start
+-- the spans of all sources, one source after another
+abbrev pub pooled : List (Listing Span) → List Span
+pooled ls = flat_map told_items ls
 
--- The sources, the span that is lent, the direction in which they stand, and how far steps have come: from the
--- middle on at a seek.
+-- the merge's list, where each source is told, and no two range keys over one key have one number
+abbrev pub united : List (Listing Span) → Option (List Span)
+united ls = if all_told ls then sound keyed_spans (cut_spans (pooled ls)) else None
+
+-- what a merge lists: it reads nothing but what its sources owe
+abbrev pub merged : List (Listing Span) → Listing Span
+merged ls = record {
+  held = united ls;
+  bad = some_names ls;
+  seek_price = λ forward cut. 0;
+  walk_price = λ forward g. 0;
+  turn_price = λ forward g. 0;
+}
+
+-- The sources, the span that is lent, the direction in which they stand, and whether the gap is known.
 pub record Merging (S : Type 0) : Type 0 where
   pub sources : List S
   pub current : Option Span
-  pub ahead : Bool
-  pub steps : ℕ
+  pub forward : Bool
+  pub known : Bool
 
--- the place of a span, and where it isn't told how far steps have come
-abbrev pub span_place : Option (List Span) → ℕ → Span → ℕ
-span_place (Some ss) steps c = spans_begun c.start ss
-span_place None steps c = steps
+-- the end at which a step in a direction leaves a span
+abbrev pub left_end : Bool → Span → List ℕ
+left_end forward c = if forward then c.end else c.start
 
-abbrev pub merged_count : Option (List Span) → ℕ
-merged_count held = option_map_or (λ ss. length ss) held (2 ^ 64)
+-- the gap from which a span of a list is seen in a direction, and the last one of that direction, where none is
+abbrev pub gap_from : Bool → List Span → Option Span → ℕ
+gap_from forward xs None = if forward then length xs else 0
+gap_from forward xs (Some c) = count_before (span_beside forward (left_end (not forward) c)) xs
 
--- a seek of the merge seeks in each source three times at most
-abbrev pub merged_seek : {S : Type 0} → (S → Seen Span) → List S → ℕ
-merged_seek seen ss = 3 * total (λ s. (seen s).seek_most) ss
+abbrev pub merged_gap : Option (List Span) → Bool → Option Span → ℕ
+merged_gap None forward current = 0
+merged_gap (Some xs) forward current = gap_from forward xs current
 
--- what a source may read on past a key, and back past it: one step, which may be a turn
-abbrev pub on_reads : List ℕ → Seen Span → ℕ
-on_reads x s = let n = spans_ended x (told_items s) in if nat_lt 0 n then s.step_reads n + s.turn_reads (n - 1) else 0
+-- what is seen from that gap: the span that is lent
+abbrev pub merged_here : Option (List Span) → Bool → Option Span → Option Span
+merged_here None forward current = current
+merged_here (Some xs) forward current = item_from forward xs (gap_from forward xs current)
 
-abbrev pub back_reads : List ℕ → Seen Span → ℕ
-back_reads x s = let n = spans_begun x (told_items s) in if nat_lt n (length (told_items s)) then s.step_reads n + s.turn_reads n else 0
+-- a span that a source sees begins, in a direction, only beyond the one that is lent
+abbrev pub begins_beyond : Bool → Span → Span → Bool
+begins_beyond forward c t = if forward then is_lt (key_cmp c.start t.start) else is_lt (key_cmp t.end c.end)
 
--- the most that a source may read in any step
-abbrev pub step_most : Seen Span → ℕ
-step_most s = s.seek_most + sum_to s.step_reads s.count + sum_to s.turn_reads s.count
+abbrev pub ends_left : Bool → Option Span → Option Span → ℕ
+ends_left forward (Some c) (Some t) = if begins_beyond forward c t then 1 else 0
+ends_left forward (Some c) None = 0
+ends_left forward None here = 0
 
--- a step over a gap goes on past the end of the span before it, or back past the start of the one behind it
-abbrev pub merged_steps : {S : Type 0} → (S → Seen Span) → Option (List Span) → List S → ℕ → ℕ
-merged_steps seen (Some xs) ss gap =
-    option_map_or (λ a. total (λ s. on_reads a.end (seen s)) ss) (item_at xs (before_cut gap)) 0 + option_map_or (λ b. total (λ s. back_reads b.start (seen s)) ss) (slice_get xs gap) 0
-merged_steps seen None ss gap = total (λ s. step_most (seen s)) ss
+-- Of each span that is left in a source two ends are left to come to, and of the one that it sees the far one, and
+-- the near one too where that is beyond the span that is lent.
+abbrev pub left_of : Bool → Option Span → Standing Span → ℕ
+left_of forward current s = 2 * s.left + ends_left forward current s.here
 
--- a turn seeks in the sources for the end at which it leaves the span
-abbrev pub turn_from : {S : Type 0} → (S → Seen Span) → List S → Bool → Option Span → ℕ
-turn_from seen ss ahead c = option_map_or (λ c. total (λ s. (seen s).seek_reads (left_end ahead c)) ss) c 0
-
-abbrev pub merged_turn : {S : Type 0} → (S → Seen Span) → Option (List Span) → List S → Bool → Option ℕ → ℕ
-merged_turn seen (Some xs) ss ahead place = turn_from seen ss ahead (item_at xs place)
-merged_turn seen None ss ahead place = 0
-
-abbrev pub merged_place : Option (List Span) → Option Span → ℕ → Option ℕ
-merged_place held current steps = option_map (span_place held steps) current
-
-abbrev pub merged : {S : Type 0} → (S → Seen Span) → List S → Option Span → Bool → ℕ → Seen Span
-merged seen ss current ahead steps = record {
-  held = united seen ss;
-  bad = any_names seen ss;
-  place = merged_place (united seen ss) current steps;
-  count = merged_count (united seen ss);
-  seek_reads = λ key. merged_seek seen ss;
-  seek_most = merged_seek seen ss;
-  step_reads = merged_steps seen (united seen ss) ss;
-  turn_reads = λ place. merged_turn seen (united seen ss) ss true (Some place) + merged_turn seen (united seen ss) ss false (Some place);
-  turn_to_next = if ahead then 0 else merged_turn seen (united seen ss) ss true (merged_place (united seen ss) current steps);
-  turn_to_prev = if ahead then merged_turn seen (united seen ss) ss false (merged_place (united seen ss) current steps) else 0;
+abbrev pub merged_standing : {S : Type 0} → (S → Listing Span) → (S → Standing Span) → Merging S → Standing Span
+merged_standing listing standing m = record {
+  gap = if m.known then Some (merged_gap (united (map listing m.sources)) m.forward m.current) else None;
+  forward = m.forward;
+  here = if m.known then merged_here (united (map listing m.sources)) m.forward m.current else None;
+  owed = total (λ s. (standing s).owed) m.sources;
+  left = total (λ s. left_of m.forward m.current (standing s)) m.sources;
 }
-
-abbrev pub merging_seen : {S : Type 0} → (S → Seen Span) → Merging S → Seen Span
-merging_seen seen m = merged seen m.sources m.current m.ahead m.steps

@@ -7,5 +7,5 @@ use Rattle.rk_fragment.proofs.ends.insert_end.Goals as goal
 pub returns : goal.returns
 returns c =
     c.in_ok-insert.ensures.keys
-    ∙ ap (insert_key key_cmp c.args.ends.now.keys) c.in_ok-copy_key.ensures
+    ∙ ap (insert_key key_cmp c.args.ends.now.keys) c.in_ok-copy_key.ensures.value
     ∙ insert_is c.args.key.now c.args.ends.now.keys

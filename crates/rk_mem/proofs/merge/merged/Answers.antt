@@ -1,6 +1,7 @@
 use Rattle.std.proofs.Common.{◌≡◌, ℕ, ◌+◌, [], ◌∷◌, ◌++◌, take, drop, ap, ◌∙◌, arith}
 use Rattle.std.specs.Ordering.{is_lt}
-use Rattle.rk_model.specs.Sources.{count_before, entry_cmp}
+use Rattle.rk_model.specs.Cuts.{count_before}
+use Rattle.rk_model.specs.Sources.{entry_cmp}
 use Rattle.rk_mem.proofs.Merging.{merge, same_merge, merge_in_order, merge_turn, merge_end}
 use Rattle.rk_mem.proofs.merge.merged.Goals as goal
 
@@ -15,7 +16,7 @@ loop-entry-preserved c =
     let front : c.split_at.result.0.now ≡ take count rest = c.split_at.ensures.front ∙ ap (λ n. take n rest) c.count_before.ensures.count in
     let back : c.split_at.result.1.now ≡ drop count rest = c.split_at.ensures.back ∙ ap (λ n. drop n rest) c.count_before.ensures.count in
     let all : c.push_all.new.all.items ≡ points ++ take count rest = c.in_ok-push_all.ensures ∙ ap (λ l. points ++ l) front in
-    let now : c.push.new.self.items ≡ (points ++ take count rest) ++ x ∷ [] = c.in_ok-push.ensures.items ∙ ap (λ e. c.push_all.new.all.items ++ e ∷ []) c.in_ok-copy.ensures ∙ ap (λ l. l ++ x ∷ []) all in
+    let now : c.push.new.self.items ≡ (points ++ take count rest) ++ x ∷ [] = c.in_ok-push.ensures.items ∙ ap (λ e. c.push_all.new.all.items ++ e ∷ []) c.in_ok-copy.ensures.value ∙ ap (λ l. l ++ x ∷ []) all in
     rw (now, back) turn
 
 pub returns-clause-same : goal.returns-clause-same

@@ -1,14 +1,20 @@
-use Rattle.std.proofs.Common.{◌∙◌, sym, arith}
-use Rattle.rk_pointmerge.proofs.Bests.{best_new, best_old}
+use Rattle.std.proofs.Common.{◌≡◌, Some, true, false, arith}
+use Rattle.rk_pointmerge.specs.Merges.{beats, shown}
+use Rattle.rk_pointmerge.proofs.Bests.{beats_itself, beats_third, best_on}
 use Rattle.rk_pointmerge.proofs.nearest.nearest.Goals as goal
 use Rattle.rk_pointmerge.proofs.nearest.nearest.Goals.{then-beats, else-beats}
 
 pub loop-i-preserved : goal.loop-i-preserved
 loop-i-preserved g c =
+    let standing = g.S.Sorted.standing in
+    let ss = c.args.sources.now in
     elim c.if-beats.branch [
       | then-beats w ↦
           let t = w.if-beats.true in
-          rw w.best-is (best_new g.S.PointList.seen c.args.sources.now c.args.ahead c.loop-i.i c.loop-i.best (omega arith) c.loop-i.invariant (c.beats.ensures.placed t) (λ all d. sym t ∙ c.beats.ensures.told all d))
+          let won : beats c.args.forward (shown standing ss (Some c.loop-i.i)) (shown standing ss c.loop-i.best) ≡ true = cc in
+          rw w.best-is (best_on standing ss c.args.forward c.loop-i.i c.loop-i.best (Some c.loop-i.i) (omega arith) c.loop-i.invariant (λ p lost. beats_third c.args.forward p _ _ lost won) (beats_itself c.args.forward _))
       | else-beats w ↦
-          rw w.best-is (best_old g.S.PointList.seen c.args.sources.now c.args.ahead c.loop-i.i c.loop-i.best c.loop-i.invariant (λ all d. sym w.if-beats.false ∙ c.beats.ensures.told all d))
+          let f = w.if-beats.false in
+          let lost : beats c.args.forward (shown standing ss (Some c.loop-i.i)) (shown standing ss c.loop-i.best) ≡ false = cc in
+          rw w.best-is (best_on standing ss c.args.forward c.loop-i.i c.loop-i.best c.loop-i.best (omega arith) c.loop-i.invariant (λ p was. was) lost)
     ]

@@ -1,5 +1,5 @@
-use Rattle.rk_pointmerge.proofs.Bests.{BestSoFar}
+use Rattle.rk_pointmerge.proofs.Bests.{BestOf}
 use Rattle.rk_pointmerge.proofs.nearest.nearest.Given as goal
 
 abbrev pub invariant-loop-i : goal.invariant-loop-i
-invariant-loop-i g l = BestSoFar g.S.PointList.seen l.sources l.ahead l.i l.best
+invariant-loop-i g l = BestOf g.S.Sorted.standing l.sources l.forward l.i l.best

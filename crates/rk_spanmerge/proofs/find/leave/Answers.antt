@@ -1,37 +1,38 @@
-use Rattle.std.proofs.Common.{◌≡◌, sym, ap, arith}
-use Rattle.rk_merge.specs.Several.{total}
-use Rattle.rk_model.proofs.Runs.{ran_from, ran_ok}
+use Rattle.std.proofs.Common.{◌≡◌, ◌<◌, sym, map, not, true, subst, IfSome, ℕ, length, get_or}
 use Rattle.rk_spanmerge.specs.Merges.{left_end}
-use Rattle.rk_spanmerge.specs.Moves.{pass_reads}
-use Rattle.rk_spanmerge.proofs.Told.{if_any, found_before, found_as, end_as, end_after, left_is_end, left_stands_at, left_within}
+use Rattle.rk_spanmerge.specs.Moves.{takes, is_past, Passed, ReachesTo}
+use Rattle.rk_spanmerge.proofs.Gaps.{left_falls}
+use Rattle.rk_spanmerge.proofs.Found.{IsFound, IsEnd, all_face, same_length, left_stands, left_is_end, arrives_at}
 use Rattle.rk_spanmerge.proofs.find.leave.Goals as goal
+
+pub settle-requires-clause-faces : goal.settle-requires-clause-faces
+settle-requires-clause-faces g c = all_face g.S.Sorted.listing g.S.Sorted.standing c.args.sources.now c.pass_all.new.sources c.args.forward c.left_end-key.result.now c.pass_all.ensures.same c.in_ok-pass_all.ensures.passed
 
 pub settle-requires-clause-stands : goal.settle-requires-clause-stands
 settle-requires-clause-stands g c =
-    left_stands_at g.S.SpanList.seen g.met.S.SpanSource.sorted c.args.sources.now c.pass_all.new.sources c.args.span.now c.args.was c.args.ahead c.left_end-key.result.now c.left_end-key.ensures c.requires.among c.requires.arrives.stands c.in_ok-pass_all.ensures.runs.same c.in_ok-pass_all.ensures.ok
+    let near = left_end (not c.args.forward) c.args.span.now in
+    let past = subst (λ z. is_past c.args.forward near z ≡ true) (sym c.left_end-key.ensures) c.requires.arrives.end.past in
+    left_stands g.S.Sorted.listing g.S.Sorted.standing c.args.sources.now c.pass_all.new.sources c.args.forward c.left_end-key.result.now c.pass_all.ensures.same c.in_ok-pass_all.ensures.passed near past c.requires.arrives.stands
 
 pub settle-requires-clause-end : goal.settle-requires-clause-end
 settle-requires-clause-end g c =
-    let seen = g.S.SpanList.seen in
-    let olds = c.args.sources.now in
-    end_after seen c.left_end-key.result.now olds c.pass_all.new.sources c.in_ok-pass_all.ensures.runs.same
-    (end_as seen olds (left_end c.args.ahead c.args.span.now) c.left_end-key.result.now (sym c.left_end-key.ensures) (left_is_end seen g.met.S.SpanSource.sorted olds c.args.span.now c.args.ahead c.requires.among))
+    let end = left_is_end g.S.Sorted.listing g.S.Sorted.standing g.met.S.Source.ordered c.args.sources.now c.args.span.now c.args.forward c.requires.among in
+    subst (IsEnd (map g.S.Sorted.listing c.pass_all.new.sources)) (sym c.left_end-key.ensures) (subst (λ ls. IsEnd ls (left_end c.args.forward c.args.span.now)) (sym c.pass_all.ensures.same) end)
 
 pub returns-clause-found : goal.returns-clause-found
 returns-clause-found g c =
-    let seen = g.S.SpanList.seen in
-    let olds = c.args.sources.now in
-    found_as seen olds c.in_ok-settle.field-0 c.args.ahead c.left_end-key.result.now (left_end c.args.ahead c.args.span.now) c.left_end-key.ensures
-    (found_before seen c.in_ok-settle.field-0 c.args.ahead c.left_end-key.result.now olds c.pass_all.new.sources c.in_ok-pass_all.ensures.runs.same c.in_ok-settle.ensures.found)
+    let found = subst (λ ls. IsFound ls c.args.forward (takes c.args.forward c.left_end-key.result.now) c.in_ok-settle.field-0) c.pass_all.ensures.same c.in_ok-settle.ensures.found in
+    subst (λ z. IsFound (map g.S.Sorted.listing c.args.sources.now) c.args.forward (takes c.args.forward z) c.in_ok-settle.field-0) c.left_end-key.ensures found
 
 pub returns-clause-arrives : goal.returns-clause-arrives
-returns-clause-arrives g c = record {
-  stands = c.in_ok-settle.ensures.stands;
-  within = if_any _ (left_within g.S.SpanList.seen c.args.sources.now c.pass_all.new.sources c.left_end-key.result.now c.args.was c.args.ahead c.requires.arrives.within c.in_ok-pass_all.ensures.runs.same c.in_ok-pass_all.ensures.ok);
-}
+returns-clause-arrives g c =
+    arrives_at g.S.Sorted.listing g.S.Sorted.standing c.pass_all.new.sources c.args.forward c.left_end-key.result.now c.in_ok-settle.field-0 (all_face g.S.Sorted.listing g.S.Sorted.standing c.args.sources.now c.pass_all.new.sources c.args.forward c.left_end-key.result.now c.pass_all.ensures.same c.in_ok-pass_all.ensures.passed) c.in_ok-settle.ensures.stands c.in_ok-settle.ensures.reaches
 
-pub returns-clause-runs : goal.returns-clause-runs
-returns-clause-runs g c =
-    let e : total (λ s. pass_reads c.args.was c.args.ahead c.left_end-key.result.now (g.S.SpanList.seen s)) c.args.sources.now ≡ total (λ s. pass_reads c.args.was c.args.ahead (left_end c.args.ahead c.args.span.now) (g.S.SpanList.seen s)) c.args.sources.now =
-    ap (λ k. total (λ s. pass_reads c.args.was c.args.ahead k (g.S.SpanList.seen s)) c.args.sources.now) c.left_end-key.ensures in
-    ran_ok _ _ _ _ _ _ _ _ _ c.in_ok-settle.field-0 (omega (arith, e)) (ran_from _ _ _ _ _ _ _ _ _ c.in_ok-pass_all.ensures.runs)
+pub returns-clause-fewer : goal.returns-clause-fewer
+returns-clause-fewer g c =
+    let olds = c.args.sources.now in
+    let news = c.pass_all.new.sources in
+    let found = c.in_ok-settle.field-0 in
+    left_falls g.S.Sorted.listing g.S.Sorted.standing olds news c.args.forward c.args.span.now found (same_length g.S.Sorted.listing news olds c.pass_all.ensures.same) c.requires.arrives.end
+    (subst (λ z. (k : ℕ) (d : g.row.S.Denot) → k < length olds → Passed c.args.forward z (g.S.Sorted.listing (get_or olds k d)) (g.S.Sorted.standing (get_or olds k d)) (g.S.Sorted.standing (get_or news k d))) c.left_end-key.ensures c.in_ok-pass_all.ensures.passed)
+    (subst (λ z. IfSome found (ReachesTo g.S.Sorted.standing news c.args.forward z)) c.left_end-key.ensures c.in_ok-settle.ensures.reaches)

@@ -1,4 +1,4 @@
-use Rattle.rk_spanmerge.proofs.Differing.{sorted_cuts_differ}
+use Rattle.rk_spanmerge.proofs.Cutting.{sorted_cuts_differ}
 use Rattle.rk_spanmerge.proofs.laws.sorted_cuts_have_differing_keys.Goals as goal
 
 pub returns : goal.returns

@@ -18,7 +18,9 @@ of-requires c =
     let new = c.args.newer.now in
     let old_differ : NumbersDiffer (ranges_of old) = c.ranges-2.ensures.differ in
     let new_differ : NumbersDiffer (ranges_of new) = c.ranges-3.ensures.differ in
-    let out : AreSortedOut c.in_ok-points.points.items (ranges_of old ++ ranges_of new) = merged_sorted_out old new c.requires c.in_ok-points.points.items c.in_ok-points.ensures.in_order old_differ new_differ in
+    let points = c.in_ok-points.points.items in
+    let same : IsPermutation (points_of old ++ points_of new) points = rw (c.points.ensures.value, c.points-2.ensures.value) at c.in_ok-points.ensures.same in
+    let out : AreSortedOut points (ranges_of old ++ ranges_of new) = merged_sorted_out old new c.requires points c.in_ok-points.ensures.in_order old_differ new_differ (merged_is old new points same c.in_ok-points.ensures.in_order) c.points.ensures.keyed c.points-2.ensures.keyed in
     rw (c.in_ok-ranges.ensures, c.ranges-2.ensures.value, c.ranges-3.ensures.value) out
 
 pub returns : goal.returns

@@ -12,4 +12,4 @@ returns-then-lt c =
     let x = c.args.x.now in
     let k = c.index-keys-i.result in
     let last = last_passing (λ p. is_lt (key_cmp p x)) keys c.loop-i.i k (omega arith) (omega arith) c.index-keys-i.is (sym c.lt.ensures ∙ c.if-lt.true) in
-    ap At c.in_ok-copy_key.ensures ∙ sym (ap (λ o. option_map_or At o Start) (c.loop-i.invariant ∙ last))
+    ap At c.in_ok-copy_key.ensures.value ∙ sym (ap (λ o. option_map_or At o Start) (c.loop-i.invariant ∙ last))

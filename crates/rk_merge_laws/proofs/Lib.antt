@@ -1,0 +1,4 @@
+pub mod PointValues
+pub mod SpanKeys
+pub mod Told
+pub mod Covers

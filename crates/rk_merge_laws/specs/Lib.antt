@@ -1,0 +1,4 @@
+pub mod PointValues
+pub mod Chunks
+pub mod Told
+pub mod MergedCovers
