@@ -8,17 +8,19 @@ use rk_model::{Entry, Source, compare_entries};
 use rk_outside::Counting;
 
 // The source that shows the nearest entry: forward the first one, and backward the last.
-pub(crate) fn nearest<R: Counting, S: Source<R, Item = Entry>>(
-    sources: &[S],
+pub(crate) fn nearest<'a, R: Counting, S: Source<R, Item = Entry>>(
+    sources: &'a [S],
     forward: bool,
 ) -> Option<usize>
     ensures { IsNearest S.standing forward sources.now result }
 {
     let mut best = None;
+    let mut nearest: Option<&'a Entry> = None;
     for i in 0..sources.len() {
         let entry = shown_at::<R, S>(sources, Some(i));
-        if beats(entry, shown_at::<R, S>(sources, best), forward) {
+        if beats(entry, nearest, forward) {
             best = Some(i);
+            nearest = entry;
         }
     }
     best
