@@ -11,7 +11,7 @@ use Rattle.rk_model.specs.declared.span.Span.{Span}
 use Rattle.rk_model.proofs.Filters.{filter-map}
 use Rattle.rk_coalesce.specs.SpanKeys.{op_of, entry_of, CoverAtEachKey, KeptAtEachKey}
 
-is_over_is : (start end x : List ℕ) (kind : RangeKind) (suffix value : List ℕ) → is_over x (op_of start end kind suffix value) ≡ within start end x
+pub is_over_is : (start end x : List ℕ) (kind : RangeKind) (suffix value : List ℕ) → is_over x (op_of start end kind suffix value) ≡ within start end x
 is_over_is start end x Set suffix value = refl
 is_over_is start end x Unset suffix value = refl
 is_over_is start end x Del suffix value = refl
@@ -20,7 +20,7 @@ all_over : (span : Span) (x : List ℕ) → within span.start span.end x ≡ tru
 all_over span x h [] = refl
 all_over span x h (k ∷ ks) = rw (is_over_is span.start span.end x k.kind k.suffix k.value, h) (ap (λ l. entry_of span k ∷ l) (all_over span x h ks))
 
-upto_over : (span : Span) (n : ℕ) (x : List ℕ) → within span.start span.end x ≡ true → (keys : List RangeKey) →
+pub upto_over : (span : Span) (n : ℕ) (x : List ℕ) → within span.start span.end x ≡ true → (keys : List RangeKey) →
     over x (upto n (map (entry_of span) keys)) ≡ upto n (map (entry_of span) keys)
 upto_over span n x h [] = refl
 upto_over span n x h (k ∷ ks) = go (nat_le k.seq n) (upto_over span n x h ks)

@@ -65,7 +65,7 @@ abbrev pub KeysDiffer : List RangeKey → Type 0
 KeysDiffer [] = Unit {0}
 KeysDiffer (k ∷ ks) = AllByRecursion (λ q. q.seq ≢ k.seq) ks × KeysDiffer ks
 
--- where numbers differ, they are spans as a source holds them
+-- where numbers differ, they are in order, with the newest range keys first
 abbrev pub FragmentsAreSpans : Type 0
 FragmentsAreSpans = (es : List Entry) → NumbersDiffer es → IsTrue (are_spans (fragments es))
 

@@ -5,7 +5,7 @@ pub fn each_key_has_its_range_keys()
     ensures { EachKeyHasItsRangeKeys }
 {}
 
-/// Where no two entries have one number, the spans are such as a source of spans holds.
+/// Where no two entries have one number, the spans are in order, with the newest range keys first.
 pub fn fragments_are_spans()
     ensures { FragmentsAreSpans }
 {}

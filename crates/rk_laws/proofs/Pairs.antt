@@ -69,7 +69,7 @@ pub by_suffix_rises : (ps : List SuffixValue) → Rising (by_suffix ps)
 by_suffix_rises [] = tt
 by_suffix_rises (p ∷ ps) = insert_rises p (by_suffix ps) (by_suffix_rises ps)
 
-insert_front : (p : SuffixValue) (l : List SuffixValue) → AllByRecursion (λ q. less p q ≡ true) l → insert_pair p l ≡ p ∷ l
+pub insert_front : (p : SuffixValue) (l : List SuffixValue) → AllByRecursion (λ q. less p q ≡ true) l → insert_pair p l ≡ p ∷ l
 insert_front p [] h = refl
 insert_front p (q ∷ qs) h = rw h.0 refl
 

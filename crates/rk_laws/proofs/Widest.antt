@@ -313,7 +313,7 @@ span_parts s t e f g = parts s.start t.start s.end t.end s.cover t.cover e f g
     parts a b c d p q e f g = rw (e, f, g) refl
 
 -- of written ends that are ordered alike there is one
-one_end : (es : List Entry) (o : IterOptions) (a b : List ℕ) → Among a (written_ends es o) → Among b (written_ends es o) → lt a b ≡ false → lt b a ≡ false → a ≡ b
+pub one_end : (es : List Entry) (o : IterOptions) (a b : List ℕ) → Among a (written_ends es o) → Among b (written_ends es o) → lt a b ≡ false → lt b a ≡ false → a ≡ b
 one_end es o a b m n h k = go (written_ends es o) (ends_ascend es o) m n
   where
     go : (l : List (List ℕ)) → Ascending lt l → Among a l → Among b l → a ≡ b
@@ -323,7 +323,7 @@ one_end es o a b m n h k = go (written_ends es o) (ends_ascend es o) m n
     go (x ∷ xs) up (inr m) (inl f) = let p : lt x a ≡ true = among_all (λ z. lt x z ≡ true) xs a up.0 m in (let q : lt x a ≡ false = sym (ap (λ z. lt z a) f) ∙ k in cc)
     go (x ∷ xs) up (inr m) (inr n) = go xs up.1 m n
 
-span_unique : (es : List Entry) (o : IterOptions) (x : List ℕ) (s t : WidestSpan) → IsStart es o x s.start → IsStop es o x s.end → s.cover ≡ cover es x → IsSpan es o x t → t ≡ s
+pub span_unique : (es : List Entry) (o : IterOptions) (x : List ℕ) (s t : WidestSpan) → IsStart es o x s.start → IsStop es o x s.end → s.cover ≡ cover es x → IsSpan es o x t → t ≡ s
 span_unique es o x s t a b c i = span_parts t s (one_end es o t.start s.start i.start.among a.among (a.least t.start i.start.among i.start.upto i.start.one) (i.start.least s.start a.among a.upto a.one)) (one_end es o t.end s.end i.stop.among b.among (b.least t.end i.stop.among i.stop.past i.stop.differs) (i.stop.least s.end b.among b.past b.differs)) (i.has ∙ sym c)
 
 pub span_of_its_keys : SpanOfItsKeys

@@ -1,11 +1,10 @@
 -- Along a run the history goes on.
-use Rattle.std.proofs.Common.{◌≡◌, ◌≤◌, List, [], ◌∷◌, ◌++◌, length, refl, ap, sym, ◌∙◌, subst, arith, append-nil, append_assoc}
-use Rattle.std.specs.List.{AllByRecursion}
+use Rattle.std.proofs.Common.{◌≡◌, List, [], ◌∷◌, ◌++◌, refl, ap, sym, ◌∙◌, subst, arith, append-nil, append_assoc}
 use Rattle.rk_model.specs.Operations.{History}
 use Rattle.rk_model.specs.Histories.{AreCommits}
 use Rattle.rk_model.specs.declared.op.Op.{Op}
 use Rattle.rk_machine.specs.Machine.{State, Event, Reply, Step, Commit, Snap, Release, OpenAt, Moves, Close}
-use Rattle.rk_machine.specs.Runs.{Done, IsRun, last_state, GoesOn, HistoriesGoOn}
+use Rattle.rk_machine.specs.Runs.{last_state, GoesOn, HistoriesGoOn}
 
 stays : (h : History) → GoesOn h h
 stays h = record { more = ([], sym (append-nil h)); commits = λ all. all }

@@ -10,4 +10,4 @@
 
 mod hiding;
 
-pub use hiding::masks;
+pub use hiding::{masks, masks_point};

@@ -4,15 +4,14 @@ use Rattle.std.specs.Prelude.{IsTrue, All}
 use Rattle.std.specs.List.Sorted.{IsPermutation, IsSortedBy}
 use Rattle.std.specs.declared.cmp.Ordering.TheVariants.{Less, Equal, Greater}
 use Rattle.std.specs.Ordering.{is_lt, ordering_then, nat_cmp}
-use Rattle.std.specs.Cmp.{IsTotalOrder, IsStrictWeakOrder}
-use Rattle.std.proofs.lemmas.Cmp.{then_total, on_total, back_total, nat_cmp_total, ranked}
+use Rattle.std.specs.Cmp.{IsStrictWeakOrder}
+use Rattle.std.proofs.lemmas.Cmp.{ranked}
 use Rattle.std.proofs.lemmas.List.Sorted.{ranks_by, All-permutation, sum_by-IsPermutation}
 use Rattle.std.proofs.lemmas.List.Elements.{filter_passes}
 use Rattle.std.proofs.lemmas.List.Sums.{list_all-from_AllPass}
 use Rattle.rk_model.proofs.Orders.{entry_total}
 use Rattle.rk_model.specs.Operations.{NumbersDiffer}
 use Rattle.rk_key.specs.Keys.{key_cmp}
-use Rattle.rk_key.specs.Laws.{key_cmp-total}
 use Rattle.rk_model.specs.Covers.{is_point}
 use Rattle.rk_model.specs.Sources.{ascends, op_key, entry_cmp, are_points}
 use Rattle.rk_model.specs.declared.op.Entry.{Entry}

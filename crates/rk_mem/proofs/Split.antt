@@ -159,8 +159,8 @@ pub fragments_of_ranges : (es : List Entry) → fragments (ranges_of es) ≡ fra
 fragments_of_ranges es =
     (λ i. let ends = sorted_keys (ends_of_ranges es i) in filter_map (λ ab. span_with ab.0 ab.1 (newest_first (keys_of_ranges es ab.0 i))) (zip ends (drop 1 ends)))
 
-pub sound_fragments : (es : List Entry) → NumbersDiffer (ranges_of es) → IsTrue (are_keyed es) → sound keyed_spans (fragments es) ≡ Some (fragments es)
-sound_fragments es differ keyed =
+pub spans_keyed : (es : List Entry) → NumbersDiffer (ranges_of es) → IsTrue (are_keyed es) → IsTrue (keyed_spans (fragments es))
+spans_keyed es differ keyed =
     let sound_ranges : are_spans (fragments (ranges_of es)) ≡ true = sound_spans (ranges_of es) differ in
     let sound_all : are_spans (fragments es) ≡ true = ap are_spans (sym (fragments_of_ranges es)) ∙ sound_ranges in
     rw (sound_all, fragments_keyed es keyed) refl

@@ -1,8 +1,8 @@
 // Chunks, which never change.
-ghost use Rattle.std.specs.Prelude.{◌≡◌, ◌++◌, length, Some, IfOk, IsTrue};
+ghost use Rattle.std.specs.Prelude.{◌≡◌, ◌++◌, length, IfOk, IsTrue};
 ghost use Rattle.std.specs.Arc.{arc_value};
 ghost use Rattle.rk_model.specs.Operations.{NumbersDiffer};
-ghost use Rattle.rk_model.specs.Items.{are_keyed, keyed_spans, sound};
+ghost use Rattle.rk_model.specs.Items.{are_keyed, keyed_spans};
 ghost use Rattle.rk_model.specs.Sources.{are_points};
 ghost use Rattle.rk_fragment.specs.Fragments.{fragments};
 ghost use Rattle.rk_mem.specs.Chunks.{NumbersRise, AreNewer, points_of, ranges_of, IsChunkOf};
@@ -97,7 +97,7 @@ impl Chunk {
     /// The spans that the range entries are cut into. Where nobody has made them yet, they are made, and kept.
     pub(crate) fn fragments(&self, alloc: Global) -> Result<Arc<Fragments>, NoMemory>
         ensures value { IfOk result (λ spans. arc_value spans ≡ fragments self.now) }
-        ensures sound { IfOk result (λ _. sound keyed_spans (fragments self.now) ≡ Some (fragments self.now)) }
+        ensures spans { IfOk result (λ _. IsTrue (keyed_spans (fragments self.now))) }
     {
         fragments_of(alloc, &self.ranges)
     }

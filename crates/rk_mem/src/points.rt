@@ -1,7 +1,7 @@
 // A source of the points of a chunk.
 ghost use Rattle.std.specs.Prelude.{◌≡◌, IsTrue, Some, None, true, IfOk};
 ghost use Rattle.std.specs.Arc.{arc_value};
-ghost use Rattle.rk_model.specs.Items.{keyed_points, sound};
+ghost use Rattle.rk_model.specs.Items.{are_keyed, keyed_points, sound};
 ghost use Rattle.rk_model.specs.Standings.{free_listing};
 ghost use Rattle.rk_model.specs.Listings.{stands_within};
 ghost use Rattle.rk_model.specs.ListingLaws.{of_sound, listed-told, listed-rise, listed-free};
@@ -67,8 +67,9 @@ impl ChunkPoints {
     pub fn new(_: Global, chunk: Arc<Chunk>) -> Result<ChunkPoints, NoMemory>
         ensures value { IfOk result (λ s. s ≡ record { list = points_of (arc_value chunk); gap = None; forward = true }) }
         ensures told { IfOk result (λ s. sound keyed_points s.list ≡ Some (points_of (arc_value chunk))) }
+        ensures keyed { IfOk result (λ _. IsTrue (are_keyed (arc_value chunk))) }
     {
-        // That they are in order is what the chunk says when it lends them.
+        // That they are in order, and all keys are keys, is what the chunk says when it lends them.
         let _points = chunk.points();
         Ok(ChunkPoints {
             listed: Listed::new(Points { chunk }),

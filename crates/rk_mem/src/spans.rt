@@ -1,7 +1,7 @@
 // A source of the spans of a chunk.
 ghost use Rattle.std.specs.Prelude.{◌≡◌, IsTrue, Some, None, true, IfOk};
 ghost use Rattle.std.specs.Arc.{arc_value};
-ghost use Rattle.rk_model.specs.Items.{keyed_spans, sound};
+ghost use Rattle.rk_model.specs.Items.{keyed_extents, keyed_spans, sound};
 ghost use Rattle.rk_model.specs.Standings.{free_listing};
 ghost use Rattle.rk_model.specs.Listings.{stands_within};
 ghost use Rattle.rk_model.specs.ListingLaws.{of_sound, listed-told, listed-rise, listed-free};
@@ -67,7 +67,8 @@ impl ChunkSpans {
     /// `NoMemory` where the spans find no memory.
     pub fn new(alloc: Global, chunk: Arc<Chunk>) -> Result<ChunkSpans, NoMemory>
         ensures value { IfOk result (λ s. s ≡ record { list = fragments (arc_value chunk); gap = None; forward = true }) }
-        ensures told { IfOk result (λ s. sound keyed_spans s.list ≡ Some (fragments (arc_value chunk))) }
+        ensures told { IfOk result (λ s. sound keyed_extents s.list ≡ Some (fragments (arc_value chunk))) }
+        ensures spans { IfOk result (λ _. IsTrue (keyed_spans (fragments (arc_value chunk)))) }
     {
         let fragments = chunk.fragments(alloc)?;
         Ok(ChunkSpans {
@@ -79,19 +80,19 @@ impl ChunkSpans {
 impl Sorted for ChunkSpans {
     type Item = Span;
 
-    ghost listing = { λ s. free_listing (sound keyed_spans s.list) };
+    ghost listing = { λ s. free_listing (sound keyed_extents s.list) };
 
     ghost standing = { λ s. stands_within s.list s.gap s.forward };
 }
 
 impl<R: Counting> Source<R> for ChunkSpans {
-    ghost ordered = { λ s. of_sound keyed_spans s.list (λ xs. IsTrue (keyed_spans xs)) (λ holds. holds) };
+    ghost ordered = { λ s. of_sound keyed_extents s.list (λ xs. IsTrue (keyed_extents xs)) (λ holds. holds) };
 
-    ghost told = { λ s. listed-told keyed_spans s.list s.gap s.forward };
+    ghost told = { λ s. listed-told keyed_extents s.list s.gap s.forward };
 
-    ghost rise = { λ s. listed-rise (sound keyed_spans s.list) };
+    ghost rise = { λ s. listed-rise (sound keyed_extents s.list) };
 
-    ghost once = { λ s _. listed-free (sound keyed_spans s.list) };
+    ghost once = { λ s _. listed-free (sound keyed_extents s.list) };
 
     fn seek(
         &mut self,

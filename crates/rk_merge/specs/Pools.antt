@@ -1,5 +1,5 @@
 -- Several sources that are moved together: what they list, which bad tables they may name, and sums over them.
-use Rattle.std.specs.Prelude.{ℕ, ◌+◌, Bool, List, [], ◌∷◌, Option, is_some, unwrap_or}
+use Rattle.std.specs.Prelude.{ℕ, ◌+◌, Bool, List, [], ◌∷◌, is_some, unwrap_or}
 use Rattle.std.specs.List.{list_all, list_any}
 use Rattle.rk_model.specs.Standings.{Listing, names}
 

@@ -18,7 +18,7 @@ use Rattle.rk_merge_laws.specs.MergedCovers.{MergedSpanHasTheCover}
 use Rattle.rk_merge_laws.proofs.SpanKeys.{merged_cover}
 use Rattle.rk_merge_laws.proofs.Told.{pool_keyed, spans_told}
 
-ends_distinct : (ess : List (List Entry)) → AllByRecursion (λ es. IsTrue (keyed_spans (fragments es))) ess → IsTrue (are_distinct (span_ends (all_fragments ess)))
+pub ends_distinct : (ess : List (List Entry)) → AllByRecursion (λ es. IsTrue (keyed_spans (fragments es))) ess → IsTrue (are_distinct (span_ends (all_fragments ess)))
 ends_distinct ess all = distinct_keys (span_ends (all_fragments ess)) (all_among IsKey (span_ends (all_fragments ess)) keys)
   where
     keys : (k : List ℕ) → Among k (span_ends (all_fragments ess)) → IsKey k

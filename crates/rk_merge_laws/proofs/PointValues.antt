@@ -23,11 +23,11 @@ use Rattle.rk_pointmerge.specs.Visibles.{is_put, outdates, is_visible, visible}
 use Rattle.rk_merge_laws.specs.PointValues.{VisibleIsThePoint}
 
 -- no entry of a list is newer than one
-abbrev is_newest : List Entry → Entry → Bool
+abbrev pub is_newest : List Entry → Entry → Bool
 is_newest es e = not (list_any (λ f. nat_lt e.seq f.seq) es)
 
 -- each entry is newer than those behind it
-abbrev NumbersFall : List Entry → Type 0
+abbrev pub NumbersFall : List Entry → Type 0
 NumbersFall [] = Unit {0}
 NumbersFall (e ∷ es) = ((f : Entry) → Among f es → f.seq < e.seq) × NumbersFall es
 
@@ -52,7 +52,7 @@ others_have e es falls (f ∷ fs) all =
     let hidden : is_newest (e ∷ es) f ≡ false = ap not (any_from (λ g. nat_lt f.seq g.seq) (e ∷ es) e (inl refl) (lt-ltb f.seq e.seq (falls.0 f (all f (inl refl))))) in
     rw hidden (others_have e es falls fs (λ g m. all g (inr m)))
 
-newest_alone : (e : Entry) (es : List Entry) → NumbersFall (e ∷ es) → filter (is_newest (e ∷ es)) (e ∷ es) ≡ e ∷ []
+pub newest_alone : (e : Entry) (es : List Entry) → NumbersFall (e ∷ es) → filter (is_newest (e ∷ es)) (e ∷ es) ≡ e ∷ []
 newest_alone e es falls = rw (no_newer e es falls) (ap (λ xs. e ∷ xs) (others_have e es falls es (λ f m. m)))
 
 any_alike : (s t : Entry → Bool) (es : List Entry) → ((e : Entry) → Among e es → s e ≡ t e) → list_any s es ≡ list_any t es
@@ -75,7 +75,7 @@ point_over x (RangeSet start end suffix value) p = cc
 point_over x (RangeUnset start end suffix) p = cc
 point_over x (RangeDel start end) p = cc
 
-nat_cmp_lt : (a b : ℕ) → is_lt (nat_cmp a b) ≡ true → a < b
+pub nat_cmp_lt : (a b : ℕ) → is_lt (nat_cmp a b) ≡ true → a < b
 nat_cmp_lt a b e = go (nat_lt a b) (a == b) refl e
   where
     go : (c d : Bool) → nat_lt a b ≡ c → is_lt (cond c Less (cond d Equal Greater)) ≡ true → a < b
@@ -84,7 +84,7 @@ nat_cmp_lt a b e = go (nat_lt a b) (a == b) refl e
     go false false p q = cc
 
 -- of entries over one key, in order, each is newer than those behind it
-falls_from : (x : List ℕ) (es : List Entry) → ((e : Entry) → Among e es → is_eq (key_cmp (op_key e.op) x) ≡ true) → ascends (λ e f. is_lt (entry_cmp e f)) es ≡ true → NumbersFall es
+pub falls_from : (x : List ℕ) (es : List Entry) → ((e : Entry) → Among e es → is_eq (key_cmp (op_key e.op) x) ≡ true) → ascends (λ e f. is_lt (entry_cmp e f)) es ≡ true → NumbersFall es
 falls_from x [] same up = tt
 falls_from x (e ∷ es) same up = (λ f m. nat_cmp_lt f.seq e.seq (newer f m), falls_from x es (λ f m. same f (inr m)) (ascends_tail _ e es up))
   where

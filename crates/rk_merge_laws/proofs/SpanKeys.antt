@@ -8,6 +8,7 @@ use Rattle.rk_key.proofs.TotalOrders.{ge_trans, lt_ge}
 use Rattle.rk_model.specs.Lists.{Among}
 use Rattle.rk_model.specs.Operations.{within, is_over, NumbersDiffer}
 use Rattle.rk_model.specs.Covers.{upto, over, cover, cover_of, is_point}
+use Rattle.rk_model.specs.ItemLaws.{are-extents}
 use Rattle.rk_model.specs.Sources.{is_span, are_spans, are_newest_first}
 use Rattle.rk_model.specs.declared.op.Op.{Op}
 use Rattle.rk_model.specs.declared.op.Op.TheVariants.{Put, Del, RangeSet, RangeUnset, RangeDel}
@@ -82,7 +83,7 @@ newest_among : (ks : List RangeKey) (j : RangeKey) → Among j (newest_first ks)
 newest_among [] j m = m
 newest_among (k ∷ ks) j m = elim (insert_among k (newest_first ks) j m) [ inl e ↦ inl e | inr n ↦ inr (newest_among ks j n) ]
 
-among_newest : (ks : List RangeKey) (j : RangeKey) → Among j ks → Among j (newest_first ks)
+pub among_newest : (ks : List RangeKey) (j : RangeKey) → Among j ks → Among j (newest_first ks)
 among_newest [] j m = m
 among_newest (k ∷ ks) j (inl e) = among_insert k (newest_first ks) j (inl e)
 among_newest (k ∷ ks) j (inr m) = among_insert k (newest_first ks) j (inr (among_newest ks j m))
@@ -113,7 +114,7 @@ pool_from x (es ∷ ess) k m = elim (among_append (keys_over (fragments es) x) (
   | inr n ↦ let g = pool_from x ess k n in record { entry = g.entry; among = among_right es (all_of ess) g.entry g.among; over = g.over; key = g.key }
 ]
 
-pool_to : (x : List ℕ) (ess : List (List Entry)) (k : RangeKey) → Gives x (all_of ess) k → Among k (keys_over (all_fragments ess) x)
+pub pool_to : (x : List ℕ) (ess : List (List Entry)) (k : RangeKey) → Gives x (all_of ess) k → Among k (keys_over (all_fragments ess) x)
 pool_to x [] k g = absurd g.among
 pool_to x (es ∷ ess) k g = rw (keys_over_append x (fragments es) (all_fragments ess)) (elim (among_append es (all_of ess) g.entry g.among) [
   | inl n ↦ among_left (keys_over (fragments es) x) (keys_over (all_fragments ess) x) k (fragment_to x es k (record { entry = g.entry; among = n; over = g.over; key = g.key }))
@@ -139,7 +140,7 @@ pub number_is : (n : ℕ) (op : Op) (k : RangeKey) → range_key n op ≡ Some k
 number_is n op k e = ap (λ (f : Entry). f.seq) (effect_is [] [] n op k e).0
 
 -- each entry that is none of a point has a range key
-has_key : (n : ℕ) (op : Op) → not (is_point op) ≡ true → (k : RangeKey) × (range_key n op ≡ Some k)
+pub has_key : (n : ℕ) (op : Op) → not (is_point op) ≡ true → (k : RangeKey) × (range_key n op ≡ Some k)
 has_key n (Put key value) e = cc
 has_key n (Del key) e = cc
 has_key n (RangeSet start end suffix value) e = (_, refl)
@@ -168,13 +169,13 @@ done_to x n es e m o l r =
     among_map effect (filter (λ e. not (is_point e.op)) (over x (upto n es))) e
     (among_filter (λ e. not (is_point e.op)) (over x (upto n es)) e (among_filter (λ e. is_over x e.op) (upto n es) e (among_filter (λ e. nat_le e.seq n) es e m l) o) r)
 
-over_upto : (x : List ℕ) (n : ℕ) (es : List Entry) → over x (upto n es) ≡ upto n (over x es)
+pub over_upto : (x : List ℕ) (n : ℕ) (es : List Entry) → over x (upto n es) ≡ upto n (over x es)
 over_upto x n es =
     filter-filter (λ e. is_over x e.op) (λ e. nat_le e.seq n) es
     ∙ (λ i. filter (λ e. and_swaps (nat_le e.seq n) (is_over x e.op) i) es)
     ∙ sym (filter-filter (λ e. nat_le e.seq n) (λ e. is_over x e.op) es)
 
-entries_differ : (span : Span) (ks : List RangeKey) → KeysDiffer ks → NumbersDiffer (map (entry_of span) ks)
+pub entries_differ : (span : Span) (ks : List RangeKey) → KeysDiffer ks → NumbersDiffer (map (entry_of span) ks)
 entries_differ span [] d = tt
 entries_differ span (k ∷ ks) d = (all_among (λ f. f.seq ≢ k.seq) (map (entry_of span) ks) other, entries_differ span ks d.1)
   where
@@ -191,7 +192,7 @@ merged_cover ess span x n distinct sorted among w differ =
     ∙ cover_of_effects (upto n (span_entries span)) (upto n (all_of ess)) x own_differ all_differ (λ f. (λ c. contains_among _ f (to f (among_contained _ f c)), λ c. contains_among _ f (from f (among_contained _ f c))))
   where
     keys_are : span.keys ≡ newest_first (keys_over (all_fragments ess) x)
-    keys_are = sym (one_over x (cut_spans (all_fragments ess)) (chain_of (cut_spans (all_fragments ess)) sorted) span among w) ∙ cut.each_key (all_fragments ess) x distinct
+    keys_are = sym (one_over x (cut_spans (all_fragments ess)) (chain_of (cut_spans (all_fragments ess)) (are-extents (cut_spans (all_fragments ess)) sorted)) span among w) ∙ cut.each_key (all_fragments ess) x distinct
 
     falling : are_newest_first span.keys ≡ true
     falling = (and_parts _ (are_newest_first span.keys) (every_gives is_span (cut_spans (all_fragments ess)) span (and_parts (list_all is_span (cut_spans (all_fragments ess))) _ sorted).0 among)).1

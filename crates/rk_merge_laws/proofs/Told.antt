@@ -37,11 +37,11 @@ use Rattle.rk_merge_laws.specs.Told.{PointsAreTold, SpansAreTold}
 use Rattle.rk_merge_laws.proofs.SpanKeys.{fragment_from, pool_from, number_is}
 
 -- entries of two lists whose numbers differ together
-differ_left : (es fs : List Entry) → NumbersDiffer (es ++ fs) → NumbersDiffer es
+pub differ_left : (es fs : List Entry) → NumbersDiffer (es ++ fs) → NumbersDiffer es
 differ_left [] fs d = tt
 differ_left (e ∷ es) fs d = (all_among (λ f. f.seq ≢ e.seq) es (λ f m. among_all (λ f. f.seq ≢ e.seq) (es ++ fs) f d.0 (among_left es fs f m)), differ_left es fs d.1)
 
-differ_right : (es fs : List Entry) → NumbersDiffer (es ++ fs) → NumbersDiffer fs
+pub differ_right : (es fs : List Entry) → NumbersDiffer (es ++ fs) → NumbersDiffer fs
 differ_right [] fs d = d
 differ_right (e ∷ es) fs d = differ_right es fs d.1
 
@@ -50,18 +50,18 @@ differ_across [] fs d e f m n = absurd m
 differ_across (x ∷ es) fs d e f (inl is) n = λ same. among_all (λ g. g.seq ≢ x.seq) (es ++ fs) f d.0 (among_right es fs f n) (same ∙ ap (λ (z : Entry). z.seq) is)
 differ_across (x ∷ es) fs d e f (inr m) n = differ_across es fs d.1 e f m n
 
-over_both : (x : List ℕ) (es : List Entry) (ess : List (List Entry)) → over x (all_of (es ∷ ess)) ≡ over x es ++ over x (all_of ess)
+pub over_both : (x : List ℕ) (es : List Entry) (ess : List (List Entry)) → over x (all_of (es ∷ ess)) ≡ over x es ++ over x (all_of ess)
 over_both x es ess = filter-append (λ e. is_over x e.op) es (all_of ess)
 
 rest_differ : (es : List Entry) (ess : List (List Entry)) → NumbersDifferOver (es ∷ ess) → NumbersDifferOver ess
 rest_differ es ess d x = differ_right (over x es) (over x (all_of ess)) (rw (sym (over_both x es ess)) (d x))
 
-across : (es : List Entry) (ess : List (List Entry)) → NumbersDifferOver (es ∷ ess) → (x : List ℕ) (e f : Entry) → Among e es → is_over x e.op ≡ true → Among f (all_of ess) → is_over x f.op ≡ true → f.seq ≢ e.seq
+pub across : (es : List Entry) (ess : List (List Entry)) → NumbersDifferOver (es ∷ ess) → (x : List ℕ) (e f : Entry) → Among e es → is_over x e.op ≡ true → Among f (all_of ess) → is_over x f.op ≡ true → f.seq ≢ e.seq
 across es ess d x e f m o n p =
     differ_across (over x es) (over x (all_of ess)) (rw (sym (over_both x es ess)) (d x)) e f
     (among_filter (λ e. is_over x e.op) es e m o) (among_filter (λ e. is_over x e.op) (all_of ess) f n p)
 
-any_all : (ess : List (List Entry)) (f : Entry) → AmongAny f ess → Among f (all_of ess)
+pub any_all : (ess : List (List Entry)) (f : Entry) → AmongAny f ess → Among f (all_of ess)
 any_all [] f m = absurd m
 any_all (es ∷ ess) f (inl m) = among_left es (all_of ess) f m
 any_all (es ∷ ess) f (inr m) = among_right es (all_of ess) f (any_all ess f m)
@@ -72,7 +72,7 @@ any_is P (es ∷ ess) all e (inl m) = all.0 e m
 any_is P (es ∷ ess) all e (inr m) = any_is P ess all.1 e m
 
 -- a point over the key of another, with its number
-point_over : (x : List ℕ) (op : Op) → is_point op ≡ true → is_over x op ≡ is_eq (key_cmp (op_key op) x)
+pub point_over : (x : List ℕ) (op : Op) → is_point op ≡ true → is_over x op ≡ is_eq (key_cmp (op_key op) x)
 point_over x (Put key value) p = refl
 point_over x (Del key) p = refl
 point_over x (RangeSet start end suffix value) p = cc
@@ -95,7 +95,7 @@ tie_parts e f tie = go (key_cmp (op_key e.op) (op_key f.op)) refl tie
     go Equal p q = (ap is_eq p, same_number f.seq e.seq q)
     go Greater p q = cc
 
-not_true : (b : Bool) → (b ≡ true → ⊥) → b ≡ false
+pub not_true : (b : Bool) → (b ≡ true → ⊥) → b ≡ false
 not_true true h = absurd (h refl)
 not_true false h = refl
 

@@ -1,3 +1,4 @@
+ghost use Rattle.rk_merge_laws.specs.Cells.{GivenHasTheCells};
 ghost use Rattle.rk_merge_laws.specs.MergedCovers.{MergedSpanHasTheCover};
 ghost use Rattle.rk_merge_laws.specs.PointValues.{VisibleIsThePoint};
 ghost use Rattle.rk_merge_laws.specs.Told.{PointsAreTold, SpansAreTold};
@@ -21,4 +22,10 @@ pub fn what_is_visible_is_the_point()
 /// There, at each key of a merged span the cover that `coalesce` answers at a number is the cover of the entries.
 pub fn a_merged_span_has_the_cover()
     ensures { MergedSpanHasTheCover }
+{}
+
+/// What an iterator is over: the points of the chunks within its bounds, merged and visible at a number, and the widest
+/// spans of the merged fragments. They are told, and have the points and covers of the entries numbered at most so.
+pub fn the_sources_give_the_cells()
+    ensures { GivenHasTheCells }
 {}

@@ -12,5 +12,5 @@ mod laws;
 
 pub use laws::{
     a_merged_span_has_the_cover, merged_points_are_told, merged_spans_are_told,
-    what_is_visible_is_the_point,
+    the_sources_give_the_cells, what_is_visible_is_the_point,
 };

@@ -1,5 +1,6 @@
 pub mod Ends
 mod Examples
+mod HistoryExamples
 pub mod Filters
 pub mod Lasts
 pub mod Lists

@@ -6,9 +6,9 @@ use Rattle.std.proofs.Common.{ap}
 use Rattle.rk_key.specs.Laws.{key_cmp-total}
 use Rattle.rk_key.proofs.TotalOrders.{lt_back, lt_trans, lt_ge, ge_lt, ge_trans}
 use Rattle.rk_model.specs.Cuts.{CutsRise}
-use Rattle.rk_model.specs.Items.{point_takes, span_takes, keyed_points, keyed_spans}
+use Rattle.rk_model.specs.Items.{point_takes, span_takes, keyed_points, keyed_extents, keyed_spans}
 use Rattle.rk_model.specs.Searches.{and_parts, not_false, tail_ascends, points_partitioned, points_past, begun_partitioned, ended_partitioned}
-use Rattle.rk_model.specs.Sources.{ascends, op_key}
+use Rattle.rk_model.specs.Sources.{ascends, op_key, are_newest_first, is_extent, is_span, are_extents, are_spans}
 use Rattle.rk_model.specs.declared.op.Entry.{Entry}
 use Rattle.rk_model.specs.declared.span.Span.{Span}
 use Rattle.rk_model.specs.declared.cut.Cut.{Cut}
@@ -20,7 +20,7 @@ points-first (Below key) es sorted = points_partitioned key es (and_parts _ _ so
 points-first (Past key) es sorted = points_past key es (and_parts _ _ sorted).0
 points-first End es sorted = λ i j d low high taken. taken
 
-pub spans-first : (forward : Bool) (cut : Cut (List ℕ)) (ss : List Span) → IsTrue (keyed_spans ss) → IsPartitionedBy (span_takes forward cut) ss
+pub spans-first : (forward : Bool) (cut : Cut (List ℕ)) (ss : List Span) → IsTrue (keyed_extents ss) → IsPartitionedBy (span_takes forward cut) ss
 spans-first forward Start ss sorted = λ i j d low high taken. taken
 spans-first true (Below key) ss sorted = ended_partitioned key ss (and_parts _ _ sorted).0
 spans-first true (Past key) ss sorted = ended_partitioned key ss (and_parts _ _ sorted).0
@@ -92,5 +92,16 @@ sorted_part holds keyed before from to xs sorted =
 pub points-part : (from to : ℕ) (es : List Entry) → IsTrue (keyed_points es) → IsTrue (keyed_points (drop from (take to es)))
 points-part from to es sorted = sorted_part _ _ _ from to es sorted
 
-pub spans-part : (from to : ℕ) (ss : List Span) → IsTrue (keyed_spans ss) → IsTrue (keyed_spans (drop from (take to ss)))
+pub spans-part : (from to : ℕ) (ss : List Span) → IsTrue (keyed_extents ss) → IsTrue (keyed_extents (drop from (take to ss)))
 spans-part from to ss sorted = sorted_part _ _ _ from to ss sorted
+
+-- spans with their newest range keys first are spans
+extents_all : (ss : List Span) → list_all is_span ss ≡ true → list_all is_extent ss ≡ true
+extents_all [] all = refl
+extents_all (s ∷ ss) all = let parts = and_parts (is_span s) _ all in and_both (is_extent s) _ (and_parts (is_extent s) (are_newest_first s.keys) parts.0).0 (extents_all ss parts.1)
+
+pub are-extents : (ss : List Span) → IsTrue (are_spans ss) → IsTrue (are_extents ss)
+are-extents ss sorted = let parts = and_parts (list_all is_span ss) _ sorted in and_both _ _ (extents_all ss parts.0) parts.1
+
+pub spans-extents : (ss : List Span) → IsTrue (keyed_spans ss) → IsTrue (keyed_extents ss)
+spans-extents ss sorted = let parts = and_parts (are_spans ss) _ sorted in and_both (are_extents ss) _ (are-extents ss parts.0) parts.1

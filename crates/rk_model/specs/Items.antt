@@ -4,7 +4,7 @@ use Rattle.std.specs.List.{list_all}
 use Rattle.std.specs.Ordering.{is_lt}
 use Rattle.rk_key.specs.Keys.{key_cmp}
 use Rattle.rk_key.specs.KeyTests.{is_key}
-use Rattle.rk_model.specs.Sources.{op_key, are_points, are_spans}
+use Rattle.rk_model.specs.Sources.{op_key, are_points, are_extents, are_spans}
 use Rattle.rk_model.specs.Spans.{op_ends}
 use Rattle.rk_model.specs.declared.op.Op.{Op}
 use Rattle.rk_model.specs.declared.op.Entry.{Entry}
@@ -41,7 +41,11 @@ are_keyed es = list_all (λ e. has_keys e.op) es
 abbrev pub keyed_points : List Entry → Bool
 keyed_points es = are_points es && list_all (λ e. is_key (op_key e.op)) es
 
--- spans whose ends are keys, ascending
+-- spans whose ends are keys, ascending, in whatever order their range keys are
+abbrev pub keyed_extents : List Span → Bool
+keyed_extents ss = are_extents ss && list_all (λ s. is_key s.start && is_key s.end) ss
+
+-- the same, with the range keys of each the newest first
 abbrev pub keyed_spans : List Span → Bool
 keyed_spans ss = are_spans ss && list_all (λ s. is_key s.start && is_key s.end) ss
 

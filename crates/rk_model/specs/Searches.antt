@@ -11,7 +11,7 @@ use Rattle.rk_key.specs.Laws.{key_cmp-total}
 use Rattle.rk_key.proofs.TotalOrders.{lt_back, lt_trans, ge_trans, lt_ge}
 use Rattle.rk_model.specs.Covers.{is_point}
 use Rattle.rk_model.specs.Cuts.{count_before}
-use Rattle.rk_model.specs.Sources.{ascends, op_key, entry_cmp, is_span}
+use Rattle.rk_model.specs.Sources.{ascends, op_key, entry_cmp, is_extent}
 use Rattle.rk_model.specs.declared.op.Entry.{Entry}
 use Rattle.rk_model.specs.declared.span.Span.{Span}
 
@@ -73,15 +73,15 @@ pub not_false : (b : Bool) → not b ≡ true → b ≡ false
 not_false true e = cc
 not_false false e = refl
 
-span_below : (s : Span) → is_span s ≡ true → is_lt (key_cmp s.start s.end) ≡ true
-span_below s h = (and_parts _ _ (and_parts _ _ h).0).0
+span_below : (s : Span) → is_extent s ≡ true → is_lt (key_cmp s.start s.end) ≡ true
+span_below s h = (and_parts _ _ h).0
 
-ended_falls : (k : List ℕ) (s t : Span) → is_span t ≡ true → not (is_lt (key_cmp t.start s.end)) ≡ true → not (is_lt (key_cmp k t.end)) ≡ true → not (is_lt (key_cmp k s.end)) ≡ true
+ended_falls : (k : List ℕ) (s t : Span) → is_extent t ≡ true → not (is_lt (key_cmp t.start s.end)) ≡ true → not (is_lt (key_cmp k t.end)) ≡ true → not (is_lt (key_cmp k s.end)) ≡ true
 ended_falls k s t h up taken =
     let back = lt_back key_cmp-total t.start t.end (span_below t h) in
     ap not (ge_trans key_cmp-total k t.end s.end (not_false _ taken) (ge_trans key_cmp-total t.end t.start s.end back (not_false _ up)))
 
-begun_falls : (k : List ℕ) (s t : Span) → is_span s ≡ true → not (is_lt (key_cmp t.start s.end)) ≡ true → is_lt (key_cmp t.start k) ≡ true → is_lt (key_cmp s.start k) ≡ true
+begun_falls : (k : List ℕ) (s t : Span) → is_extent s ≡ true → not (is_lt (key_cmp t.start s.end)) ≡ true → is_lt (key_cmp t.start k) ≡ true → is_lt (key_cmp s.start k) ≡ true
 begun_falls k s t h up taken =
     lt_trans key_cmp-total s.start t.start k (lt_ge key_cmp-total s.start s.end t.start (span_below s h) (not_false _ up)) taken
 
@@ -99,12 +99,12 @@ points_past k es sorted =
     let parts = and_parts _ _ sorted in
     is_partitioned _ _ (λ e. not (is_lt (key_cmp k (op_key e.op)))) (λ x y p q up taken. ap not (not_above_after (op_key x.op) (op_key y.op) k (nat_cmp y.seq x.seq) up (not_false _ taken))) es parts.0 parts.1
 
-pub ended_partitioned : (k : List ℕ) (ss : List Span) → IsTrue (list_all is_span ss && ascends (λ s t. not (is_lt (key_cmp t.start s.end))) ss) → IsPartitionedBy (λ s. not (is_lt (key_cmp k s.end))) ss
+pub ended_partitioned : (k : List ℕ) (ss : List Span) → IsTrue (list_all is_extent ss && ascends (λ s t. not (is_lt (key_cmp t.start s.end))) ss) → IsPartitionedBy (λ s. not (is_lt (key_cmp k s.end))) ss
 ended_partitioned k ss sorted =
     let parts = and_parts _ _ sorted in
-    is_partitioned is_span _ _ (λ x y p q up taken. ended_falls k x y q up taken) ss parts.0 parts.1
+    is_partitioned is_extent _ _ (λ x y p q up taken. ended_falls k x y q up taken) ss parts.0 parts.1
 
-pub begun_partitioned : (k : List ℕ) (ss : List Span) → IsTrue (list_all is_span ss && ascends (λ s t. not (is_lt (key_cmp t.start s.end))) ss) → IsPartitionedBy (λ s. is_lt (key_cmp s.start k)) ss
+pub begun_partitioned : (k : List ℕ) (ss : List Span) → IsTrue (list_all is_extent ss && ascends (λ s t. not (is_lt (key_cmp t.start s.end))) ss) → IsPartitionedBy (λ s. is_lt (key_cmp s.start k)) ss
 begun_partitioned k ss sorted =
     let parts = and_parts _ _ sorted in
-    is_partitioned is_span _ _ (λ x y p q up taken. begun_falls k x y p up taken) ss parts.0 parts.1
+    is_partitioned is_extent _ _ (λ x y p q up taken. begun_falls k x y p up taken) ss parts.0 parts.1

@@ -39,10 +39,17 @@ are_points es = list_all (λ e. is_point e.op) es && ascends (λ e f. is_lt (ent
 abbrev pub are_newest_first : List RangeKey → Bool
 are_newest_first keys = ascends (λ j k. nat_lt k.seq j.seq) keys
 
--- its start below its end, and keys, the newest first
-abbrev pub is_span : Span → Bool
-is_span s = is_lt (key_cmp s.start s.end) && not (none_of s.keys) && are_newest_first s.keys
+-- its start below its end, and range keys
+abbrev pub is_extent : Span → Bool
+is_extent s = is_lt (key_cmp s.start s.end) && not (none_of s.keys)
 
--- spans, ascending, of which no two meet
+-- spans, ascending, of which no two meet, in whatever order their range keys are
+abbrev pub are_extents : List Span → Bool
+are_extents ss = list_all is_extent ss && ascends (λ s t. not (is_lt (key_cmp t.start s.end))) ss
+
+-- a span whose range keys are the newest first
+abbrev pub is_span : Span → Bool
+is_span s = is_extent s && are_newest_first s.keys
+
 abbrev pub are_spans : List Span → Bool
 are_spans ss = list_all is_span ss && ascends (λ s t. not (is_lt (key_cmp t.start s.end))) ss

@@ -27,7 +27,7 @@ pub fn copy_key(key: &UserKey) -> Result<UserKey, NoMemory>
 /// # Errors
 ///
 /// `NoMemory` where that is too little and there is no more. The old one is gone.
-pub(crate) fn copy_key_into(key: &UserKey, old: UserKey) -> Result<UserKey, NoMemory>
+pub fn copy_key_into(key: &UserKey, old: UserKey) -> Result<UserKey, NoMemory>
     ensures { IfOk result (λ k. k ≡ key.now) }
 {
     match key.copy_into(old) {

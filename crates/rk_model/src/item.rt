@@ -2,7 +2,7 @@
 ghost use Rattle.std.specs.Prelude.{◌≡◌, IsTrue, Bool, List, ℕ, true, false, take, drop};
 ghost use Rattle.std.specs.List.Sorted.{IsPartitionedBy};
 ghost use Rattle.rk_model.specs.Cuts.{CutsRise, cut_copied};
-ghost use Rattle.rk_model.specs.Items.{point_takes, span_takes, keyed_points, keyed_spans};
+ghost use Rattle.rk_model.specs.Items.{point_takes, span_takes, keyed_points, keyed_extents};
 ghost use Rattle.rk_model.specs.ItemLaws.{points-first, points-rise, points-part, spans-first, spans-rise, spans-part};
 ghost use Rattle.rk_model.specs.declared.cut.Cut.{Cut};
 
@@ -61,7 +61,7 @@ impl Item for Entry {
 impl Item for Span {
     ghost takes = { span_takes };
 
-    ghost in_order = { keyed_spans };
+    ghost in_order = { keyed_extents };
 
     ghost read_once = { true };
 

@@ -27,7 +27,7 @@ mod source;
 mod span;
 
 pub use both_ways::{points_before, points_from};
-pub use copies::{copy_bound, copy_key};
+pub use copies::{copy_bound, copy_key, copy_key_into};
 pub use cursor::Cursor;
 pub use cut::Cut;
 pub use item::Item;
@@ -35,7 +35,7 @@ pub use listed::{Lends, ListPoints, ListSpans, Listed};
 pub use op::{Entry, Op};
 pub use options::IterOptions;
 pub use order::compare_entries;
-pub use plain::{Plain, first_greater};
+pub use plain::{KeptSpan, Plain, first_greater, is_same_cover};
 pub use sorted::{Sorted, Source};
 pub use source::{PointSource, SpanSource};
 pub use span::{RangeKey, RangeKeys, RangeKind, Span, SuffixValue};

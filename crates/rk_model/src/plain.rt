@@ -23,7 +23,8 @@ use ends::{EndCover, covered_ends};
 use positions::{positions, shown};
 use rk_key::UserKey;
 use rk_outside::{Bytes, NoMemory};
-use spans::{KeptSpan, widest_span};
+use spans::widest_span;
+pub use spans::{KeptSpan, is_same_cover};
 use std::alloc::Global;
 use std::marker::Model;
 

@@ -9,3 +9,4 @@ pub mod Sights
 pub mod Ways
 pub mod Looking
 pub mod Viewings
+mod Examples

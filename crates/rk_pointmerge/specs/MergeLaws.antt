@@ -9,8 +9,7 @@ use Rattle.rk_model.specs.Sources.{ascends, entry_cmp}
 use Rattle.rk_model.specs.Standings.{Listing, Standing, IsTold, WalksRise}
 use Rattle.rk_model.specs.declared.op.Entry.{Entry}
 use Rattle.rk_merge.specs.Unions.{union}
-use Rattle.rk_merge.specs.Pools.{total}
-use Rattle.rk_merge.specs.Pools.{told_items, all_told}
+use Rattle.rk_merge.specs.Pools.{total, told_items, all_told}
 use Rattle.rk_merge.proofs.Counts.{count_all, union_count, union_length, gap_test, gap_falls, gap_count, gap_more}
 use Rattle.rk_merge.proofs.Lists.{and_parts}
 use Rattle.rk_model.proofs.Orders.{entry_total}

@@ -9,8 +9,7 @@ use Rattle.rk_model.specs.Sources.{entry_cmp}
 use Rattle.rk_model.specs.Standings.{Listing, Standing}
 use Rattle.rk_model.specs.declared.op.Entry.{Entry}
 use Rattle.rk_merge.specs.Unions.{union}
-use Rattle.rk_merge.specs.Pools.{total}
-use Rattle.rk_merge.specs.Pools.{told_items, all_told, some_names}
+use Rattle.rk_merge.specs.Pools.{total, told_items, all_told, some_names}
 use Rattle.rk_merge.specs.Cuts.{is_nearer}
 
 abbrev pub comes_before : Entry → Entry → Bool

@@ -1,22 +1,17 @@
 -- The laws of what is visible as a source.
-use Rattle.std.specs.Prelude.{◌≡◌, ℕ, suc, zero, ◌+◌, ◌-◌, ◌≤◌, Bool, true, false, ◌&&◌, not, length, filter, Option, Some, None, option_map, option_and_then, IfSome, IsTrue, slice_get, is_some, if◌then◌else◌, List, [], ◌∷◌, ◌<◌, take}
+use Rattle.std.specs.Prelude.{◌≡◌, ℕ, suc, zero, ◌≤◌, Bool, true, false, length, filter, Option, Some, None, option_map, option_and_then, IfSome, IsTrue, is_some, if◌then◌else◌, List, [], ◌∷◌, take}
 use Rattle.std.proofs.Common.{arith, refl, ap, cond}
-use Rattle.std.specs.List.{list_all}
 use Rattle.std.specs.Option.{option_map_or}
-use Rattle.std.specs.Ordering.{is_lt}
-use Rattle.std.specs.Cmp.{IsTotalOrder}
-use Rattle.std.proofs.lemmas.Cmp.{then_total, on_total, back_total, nat_cmp_total}
-use Rattle.rk_key.specs.Laws.{key_cmp-total}
 use Rattle.rk_model.proofs.Orders.{entry_total}
 use Rattle.rk_model.specs.Cuts.{item_from}
 use Rattle.rk_model.specs.Items.{keyed_points}
 use Rattle.rk_model.specs.Standings.{Listing, Standing, IsTold, WalksRise, IsFree}
 use Rattle.rk_model.specs.Covers.{is_point}
-use Rattle.rk_model.specs.Sources.{entry_cmp, op_key}
+use Rattle.rk_model.specs.Sources.{op_key}
 use Rattle.rk_model.specs.declared.op.Entry.{Entry}
 use Rattle.rk_key.specs.KeyTests.{is_key}
 use Rattle.rk_merge.proofs.Lists.{and_parts, and_true, all_filter, filter_ascends}
-use Rattle.rk_pointmerge.specs.Visibles.{is_visible, visible, place_of, count_to, viewed, viewed_from, viewed_gap, viewed_here, sees, stood_at, shown_at}
+use Rattle.rk_pointmerge.specs.Visibles.{is_visible, visible, place_of, count_to, viewed, viewed_from, sees, stood_at}
 
 module _ {A : Type 0} (p : A → Bool) where
   pub place_rises : (xs : List A) (v w : ℕ) → v ≤ w → place_of p xs v ≤ place_of p xs w

@@ -1,4 +1,4 @@
--- What is seen of points at a number: of each key its newest entry that is numbered at most so, where that is a set.
+-- What is seen of points at a number: of each key its newest entry that is numbered at most so, where that is a put.
 use Rattle.std.specs.Prelude.{◌≡◌, ℕ, zero, suc, ◌+◌, ◌-◌, ◌<◌, ◌≤◌, nat_lt, nat_le, Bool, true, false, ◌&&◌, ◌||◌, not, List, [], ◌∷◌, length, take, filter, Option, Some, None, is_some, IfSome, if◌then◌else◌, option_map, option_and_then, unwrap_or, ◌⊎◌, slice_get, Result, OnOk}
 use Rattle.std.specs.List.{list_any}
 use Rattle.std.specs.Option.{option_map_or}

@@ -13,7 +13,7 @@ use rk_outside::{Counting, NoMemory, SourceError};
 use std::alloc::Global;
 use std::marker::Model;
 
-/// Of each key its newest entry that is numbered at most `n`, where that is a set. It is told where the source is.
+/// Of each key its newest entry that is numbered at most `n`, where that is a put. It is told where the source is.
 ///
 /// Forward it stands at the entry that is seen. Backward the newest version of a key is known only once it is
 /// passed: so the entry that is seen is a copy, in buffers that are used again, and it stands before it.

@@ -1,15 +1,10 @@
-//! Tests of sources and of what they stand on: lists in memory, cells, fragments, chunks and memtables, merged points
-//! and merged spans, also over a source that reads blocks, and sources cut at bounds.
+//! Tests of sources over lists in memory and of what they stand on: lists, cells, fragments, chunks and memtables.
 //!
 //! A contract says what a call answers where it finds memory. These tests show that with ample memory each public
 //! call does so, on rows worked out by hand. They stand above what they test, so that no crate is proved twice for
 //! its tests.
 #![tactic(auto)]
 
-#[cfg(test)]
-mod blocks;
-#[cfg(test)]
-mod bounds;
 #[cfg(test)]
 mod cells;
 #[cfg(test)]
@@ -18,11 +13,5 @@ mod fragments;
 mod lists;
 #[cfg(test)]
 mod memory;
-#[cfg(test)]
-mod paged;
-#[cfg(test)]
-mod points;
-#[cfg(test)]
-mod spans;
 #[cfg(test)]
 mod walks;

@@ -1,10 +1,11 @@
 // Sources over lists in memory.
+use crate::walks::{newest, stepped};
 use rk_key::{read_key, read_suffix};
 use rk_model::{
     Cursor, Cut, Entry, ListPoints, ListSpans, Op, RangeKey, RangeKeys, RangeKind, Span,
     SpanSource, SuffixValue, points_before, points_from,
 };
-use rk_outside::{Bytes, Counting, NoReads};
+use rk_outside::{Bytes, NoReads};
 use std::alloc::Global;
 use std::test::Fail;
 
@@ -57,12 +58,6 @@ fn span(alloc: Global, start: &[u8], end: &[u8], seq: u64) -> Result<Span, Fail>
     })
 }
 
-// The number of the newest range key here.
-fn newest<R: Counting, S: SpanSource<R>>(source: &S, _: &R) -> Option<u64> {
-    let key = source.here()?.keys.as_slice().first()?;
-    Some(key.seq)
-}
-
 #[test]
 fn a_span_is_found_by_its_end_and_by_its_start(rt: HostRuntime) -> Result<(), Fail> {
     let alloc = rt.alloc();
@@ -77,23 +72,6 @@ fn a_span_is_found_by_its_end_and_by_its_start(rt: HostRuntime) -> Result<(), Fa
     source.seek_lt(&mut reader, &c)?;
     assert_eq!(rt; newest(&source, &reader), Some(1));
     Ok(())
-}
-
-// One step, where there is a span, and the number of the newest range key then.
-fn stepped<R: Counting, S: SpanSource<R>>(
-    source: &mut S,
-    reader: &mut R,
-    forward: bool,
-) -> Result<Option<u64>, Fail> {
-    let Some(_span) = source.here() else {
-        return Ok(None);
-    };
-    if forward {
-        source.next(reader)?;
-    } else {
-        source.prev(reader)?;
-    }
-    Ok(newest(source, reader))
 }
 
 #[test]

@@ -1,8 +1,9 @@
 // Memtables of a few entries, and of many.
+use crate::walks::{newest, stepped};
 use rk_key::read_key;
 use rk_mem::{Chunk, ChunkPoints, ChunkSpans};
 use rk_model::{Cut, Entry, SpanSource, points_before, points_from};
-use rk_outside::{Counting, NoReads};
+use rk_outside::NoReads;
 use std::alloc::Global;
 use std::sync::Arc;
 use std::test::Fail;
@@ -84,39 +85,16 @@ fn points_of_a_chunk(rt: HostRuntime) -> Result<(), Fail> {
     Ok(())
 }
 
-/// The number of the newest range key here, from which it goes one span on.
-fn pass<R: Counting, S: SpanSource<R>>(spans: &mut S, reader: &mut R) -> Result<Option<u64>, Fail> {
-    let Some(span) = spans.here() else {
-        return Ok(None);
-    };
-    let newest = span.keys.as_slice().first().map(|key| key.seq);
-    spans.next(reader)?;
-    Ok(newest)
-}
-
-/// The same one span back.
-fn pass_back<R: Counting, S: SpanSource<R>>(
-    spans: &mut S,
-    reader: &mut R,
-) -> Result<Option<u64>, Fail> {
-    let Some(span) = spans.here() else {
-        return Ok(None);
-    };
-    let newest = span.keys.as_slice().first().map(|key| key.seq);
-    spans.prev(reader)?;
-    Ok(newest)
-}
-
 #[test]
 fn spans_of_a_chunk(rt: HostRuntime) -> Result<(), Fail> {
     let alloc = rt.alloc();
     let mut spans = ChunkSpans::new(alloc, chunk_of_sets(alloc, 1, 3)?)?;
     spans.seek_ge(&mut NoReads, &read_key(alloc, b"k2")?)?;
-    assert_eq!(rt; pass(&mut spans, &mut NoReads)?, Some(2));
-    assert_eq!(rt; pass(&mut spans, &mut NoReads)?, None);
+    assert_eq!(rt; newest(&spans, &NoReads), Some(2));
+    assert_eq!(rt; stepped(&mut spans, &mut NoReads, true)?, None);
     spans.seek_lt(&mut NoReads, &read_key(alloc, b"k2")?)?;
-    assert_eq!(rt; pass_back(&mut spans, &mut NoReads)?, Some(1));
-    assert_eq!(rt; pass_back(&mut spans, &mut NoReads)?, None);
+    assert_eq!(rt; newest(&spans, &NoReads), Some(1));
+    assert_eq!(rt; stepped(&mut spans, &mut NoReads, false)?, None);
     Ok(())
 }
 
@@ -128,7 +106,7 @@ fn fragments_are_made_once(rt: HostRuntime) -> Result<(), Fail> {
     for _ in 0..100_000 {
         let mut spans = ChunkSpans::new(alloc, Arc::try_clone(&chunk)?)?;
         spans.seek_ge(&mut NoReads, &least)?;
-        assert_eq!(rt; pass(&mut spans, &mut NoReads)?, Some(1));
+        assert_eq!(rt; newest(&spans, &NoReads), Some(1));
     }
     Ok(())
 }

@@ -1,88 +1,27 @@
-// Walks over any source of points, and what it shows on the way.
-use rk_key::{UserKey, read_key};
-use rk_model::{Cut, PointSource};
-use rk_outside::{Counting, SourceError};
-use std::alloc::Global;
+// Walks over any source of spans, and what it shows on the way.
+use rk_model::SpanSource;
+use rk_outside::Counting;
 use std::test::Fail;
 
-/// The number of the entry here, and 0 where there is none.
-fn number<R: Counting, P: PointSource<R>>(points: &P) -> u64 {
-    match points.here() {
-        Some(entry) => entry.seq,
-        None => 0,
-    }
+/// The number of the newest range key here.
+pub(super) fn newest<R: Counting, S: SpanSource<R>>(source: &S, _: &R) -> Option<u64> {
+    let key = source.here()?.keys.as_slice().first()?;
+    Some(key.seq)
 }
 
-/// One step, where there is an entry, and the number that is shown then.
-fn step<R: Counting, P: PointSource<R>>(
-    points: &mut P,
+/// One step, where there is a span, and the number of the newest range key then.
+pub(super) fn stepped<R: Counting, S: SpanSource<R>>(
+    source: &mut S,
     reader: &mut R,
     forward: bool,
-) -> Result<u64, SourceError> {
-    if points.here().is_some() {
-        if forward {
-            points.next(reader)?;
-        } else {
-            points.prev(reader)?;
-        }
+) -> Result<Option<u64>, Fail> {
+    let Some(_span) = source.here() else {
+        return Ok(None);
+    };
+    if forward {
+        source.next(reader)?;
+    } else {
+        source.prev(reader)?;
     }
-    Ok(number::<R, P>(points))
-}
-
-/// The numbers that are shown after a seek of a cut, and after each of some steps, forward or backward.
-pub(super) fn walk_from<R: Counting, P: PointSource<R>>(
-    alloc: Global,
-    points: &mut P,
-    reader: &mut R,
-    cut: Cut<&UserKey>,
-    forward: bool,
-    steps: &[bool],
-) -> Result<Vec<u64>, Fail> {
-    points.seek(reader, cut, forward)?;
-    let mut numbers = Vec::new(alloc);
-    numbers.push(number::<R, P>(points))?;
-    for forward in steps {
-        numbers.push(step(points, reader, *forward)?)?;
-    }
-    Ok(numbers)
-}
-
-/// The same after a seek forward from a key.
-pub(super) fn walk<R: Counting, P: PointSource<R>>(
-    alloc: Global,
-    points: &mut P,
-    reader: &mut R,
-    key: &[u8],
-    steps: &[bool],
-) -> Result<Vec<u64>, Fail> {
-    let key = read_key(alloc, key)?;
-    walk_from(alloc, points, reader, Cut::Below(&key), true, steps)
-}
-
-/// The numbers that are shown beyond an end, to which a seek in a direction leads, and after a turn there.
-pub(super) fn turn_at_end<R: Counting, P: PointSource<R>>(
-    points: &mut P,
-    reader: &mut R,
-    forward: bool,
-) -> Result<(u64, u64), Fail> {
-    let end = if forward { Cut::End } else { Cut::Start };
-    points.seek(reader, end, forward)?;
-    let beyond = number::<R, P>(points);
-    points.step(reader, !forward)?;
-    Ok((beyond, number::<R, P>(points)))
-}
-
-/// Whether a step from a key on is refused for the first fault of the reader, and nothing is shown then.
-pub(super) fn is_refused<R: Counting, P: PointSource<R>>(
-    alloc: Global,
-    points: &mut P,
-    reader: &mut R,
-    key: &[u8],
-) -> Result<bool, Fail> {
-    points.seek_ge(reader, &read_key(alloc, key)?)?;
-    let refused = matches!(
-        step(points, reader, true),
-        Err(SourceError::ReadFault { faults: 1 })
-    );
-    Ok(refused && points.here().is_none())
+    Ok(newest(source, reader))
 }

@@ -6,7 +6,7 @@ use Rattle.std.specs.Option.{option_map_or}
 use Rattle.std.specs.List.Sorted.{IsPartitionedBy}
 use Rattle.rk_outside.specs.declared.error.SourceError.{SourceError}
 use Rattle.rk_model.specs.Cuts.{count_before, item_from, CutsRise}
-use Rattle.rk_model.specs.Standings.{Listing, Standing, Leads, Costs, IsTold, names, agree, step_from, step_to}
+use Rattle.rk_model.specs.Standings.{Listing, Standing, Leads, Costs, IsTold, names, agree, can_step, step_from, step_to}
 use Rattle.rk_model.specs.declared.cut.Cut.{Cut}
 use Rattle.rk_model.specs.declared.cut.Cut.TheVariants.{Start, Below, Past, End}
 use Rattle.std.proofs.lemmas.Bool.{eqb-true}
@@ -125,7 +125,7 @@ is_parted takes upper in_order (Some xs) first part sorted = record {
 module _ {A : Type 0} (takes : Takes A) (lower upper : Option (List ℕ)) (rises : (forward : Bool) (x : A) → CutsRise (takes forward) x) where
   pub seek_leads : {T : Type 0} (l l' : Listing A) (s' : Standing A) (forward : Bool) (cut used : Cut (List ℕ)) (result : Result T SourceError) → used ≡ clamped lower upper forward cut → IfSome l.held (IsParted takes upper)
       → Leads l l' s' forward (λ xs. Some (count_before (takes forward used) xs)) result
-      → Leads (bounded takes lower upper l) (bounded takes lower upper l') (stands_between takes lower upper forward l'.held s') forward (λ ys. Some (count_before (takes forward cut) ys)) result
+      → Leads (bounded takes lower upper l) (bounded takes lower upper l') (stands_between takes lower upper (Some forward) l'.held s') forward (λ ys. Some (count_before (takes forward cut) ys)) result
   seek_leads l l' s' forward cut used (Ok v) is parted leads = record {
     same = ap (bounded takes lower upper) leads.same;
     there = there l.held l'.held (ap (λ k. k.held) leads.same) parted leads.there;
@@ -209,8 +209,8 @@ module _ {A : Type 0} (takes : Takes A) (lower upper : Option (List ℕ)) (rises
   -- from where something is seen, a step reads at the place of the source what it reads at that of the part
   abbrev SamePrices : Listing A → Standing A → Bool → Bool → Type 0
   SamePrices l s b forward =
-      (step_from (bounded takes lower upper l) forward (stands_between takes lower upper b l.held s) ≡ step_from l forward s)
-      × (step_to (bounded takes lower upper l) forward (stands_between takes lower upper b l.held s) ≡ step_to l forward s)
+      (step_from (bounded takes lower upper l) forward (stands_between takes lower upper (Some b) l.held s) ≡ step_from l forward s)
+      × (step_to (bounded takes lower upper l) forward (stands_between takes lower upper (Some b) l.held s) ≡ step_to l forward s)
 
   same_prices : (l : Listing A) (s : Standing A) (b forward : Bool) (xs : List A) (g : ℕ) → l.held ≡ Some xs → s.gap ≡ Some g → s.forward ≡ b → IsInside xs b g → SamePrices l s b forward
   same_prices l s true true xs g held gap faces is =
@@ -230,7 +230,7 @@ module _ {A : Type 0} (takes : Takes A) (lower upper : Option (List ℕ)) (rises
 
   pub inside_costs : {T : Type 0} (l : Listing A) (s : Standing A) (b forward : Bool) (x : A) (o' : ℕ) (c c' : Counts) (result : Result T SourceError) → IsBounding takes lower upper b l.held s → here_between takes lower upper b l.held s ≡ Some x
       → Costs l s.owed o' c c' (step_from l forward s) (step_to l forward s) result
-      → Costs (bounded takes lower upper l) s.owed o' c c' (step_from (bounded takes lower upper l) forward (stands_between takes lower upper b l.held s)) (step_to (bounded takes lower upper l) forward (stands_between takes lower upper b l.held s)) result
+      → Costs (bounded takes lower upper l) s.owed o' c c' (step_from (bounded takes lower upper l) forward (stands_between takes lower upper (Some b) l.held s)) (step_to (bounded takes lower upper l) forward (stands_between takes lower upper (Some b) l.held s)) result
   inside_costs l s b forward x o' c c' result is sees costs =
       costs_told (bounded takes lower upper l) s.owed o' c c' _ _ _ _ result (λ told. prices l.held s.gap refl refl told is.faces is.side sees)
       (costs_over l (bounded takes lower upper l) s.owed o' c c' _ _ result (named l.held refl) (λ told. was l.held refl told) costs)
@@ -245,7 +245,7 @@ module _ {A : Type 0} (takes : Takes A) (lower upper : Option (List ℕ)) (rises
 
       prices : (h : Option (List A)) (p : Option ℕ) → l.held ≡ h → s.gap ≡ p → IsTrue (is_some (option_map (between takes lower upper) l.held)) → IfSome s.gap (λ g. s.forward ≡ b) → IfSome l.held (λ xs. IfSome s.gap (IsOnSide b (lows takes lower xs) (highs takes upper xs)))
           → here_between takes lower upper b l.held s ≡ Some x
-          → step_from (bounded takes lower upper l) forward (stands_between takes lower upper b l.held s) + step_to l forward s ≤ step_from l forward s + step_to (bounded takes lower upper l) forward (stands_between takes lower upper b l.held s)
+          → step_from (bounded takes lower upper l) forward (stands_between takes lower upper (Some b) l.held s) + step_to l forward s ≤ step_from l forward s + step_to (bounded takes lower upper l) forward (stands_between takes lower upper (Some b) l.held s)
       prices None p e q told faces side sees = let none : false ≡ true = rw e at told in cc
       prices (Some xs) None e q told faces side sees = let none : None ≡ Some x = rw (e, q) at sees in cc
       prices (Some xs) (Some g) e q told faces side sees =
@@ -268,3 +268,8 @@ must_see false false true None asked (inr stays) = cc
 must_see false false false None asked (inr stays) = cc
 must_see true false known None asked (inr stays) = cc
 must_see false true known None asked (inr stays) = cc
+
+-- and a direction in which it stands
+pub must_face : {A : Type 0} (takes : Takes A) (lower upper : Option (List ℕ)) (facing : Option Bool) (forward : Bool) (held : Option (List A)) (s : Standing A) → IsTrue (can_step forward (stands_between takes lower upper facing held s)) → (b : Bool) × (facing ≡ Some b)
+must_face takes lower upper (Some b) forward held s asked = (b, refl)
+must_face takes lower upper None forward held s asked = let no : false ≡ true = asked in cc

@@ -93,9 +93,14 @@ module _ {A : Type 0} (takes : Takes A) (lower upper : Option (List ℕ)) (xs : 
   seen_between false g within side = seen_backward g within side
 
 -- what is seen is what the part has there
-pub bounded-told : {A : Type 0} (takes : Takes A) (lower upper : Option (List ℕ)) (forward : Bool) (l : Listing A) (s : Standing A)
-    → IsTold l s → IsTold (bounded takes lower upper l) (stands_between takes lower upper forward l.held s)
-bounded-told {A} takes lower upper forward l s told = record { within = within l.held s.gap; shown = shown l.held s.gap refl; lost = lost l.held s.gap refl told.lost }
+pub bounded-told : {A : Type 0} (takes : Takes A) (lower upper : Option (List ℕ)) (facing : Option Bool) (l : Listing A) (s : Standing A)
+    → IsTold l s → IsTold (bounded takes lower upper l) (stands_between takes lower upper facing l.held s)
+bounded-told {A} takes lower upper None l s told = record { within = none (λ ys g. g ≤ length ys) l.held; shown = none (λ ys g. None ≡ item_from true ys g) l.held; lost = λ e. refl }
+  where
+    none : (F : List A → ℕ → Type 0) (h : Option (List A)) → IfSome (option_map (between takes lower upper) h) (λ ys. IfSome None (F ys))
+    none F None = tt
+    none F (Some xs) = tt
+bounded-told {A} takes lower upper (Some forward) l s told = record { within = within l.held s.gap; shown = shown l.held s.gap refl; lost = lost l.held s.gap refl told.lost }
   where
     within : (h : Option (List A)) (p : Option ℕ) → IfSome (option_map (between takes lower upper) h) (λ ys. IfSome (option_map (λ g. option_map_or (λ xs. gap_between takes lower upper xs g) h g) p) (λ g. g ≤ length ys))
     within None p = tt

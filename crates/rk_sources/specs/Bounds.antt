@@ -1,5 +1,5 @@
 -- A source cut at bounds: of its list the part from the lower bound up to the upper one.
-use Rattle.std.specs.Prelude.{◌≡◌, ℕ, ◌+◌, ◌-◌, ◌≤◌, min, Bool, true, false, not, ◌==◌, List, length, take, drop, if◌then◌else◌, Option, Some, None, IfSome, option_map, option_and_then}
+use Rattle.std.specs.Prelude.{◌≡◌, ℕ, ◌+◌, ◌-◌, ◌≤◌, min, Bool, true, false, not, ◌==◌, List, length, take, drop, if◌then◌else◌, Option, Some, None, IfSome, option_map, option_and_then, unwrap_or}
 use Rattle.std.specs.Option.{option_map_or}
 use Rattle.std.specs.Ordering.{is_lt}
 use Rattle.rk_key.specs.Keys.{key_cmp}
@@ -77,12 +77,18 @@ bounded takes lower upper l = record {
   turn_price = λ forward g. if is_far takes lower upper l forward g then l.seek_price forward (bound_cut lower upper forward) else l.turn_price forward (skipped takes lower l + g);
 }
 
--- the source, the bounds, and the direction
+-- the source, the bounds, and the direction in which it stands, or none where it is lost
 pub record Bounding (S : Type 0) : Type 0 where
   pub source : S
   pub lower : Option (List ℕ)
   pub upper : Option (List ℕ)
-  pub forward : Bool
+  pub facing : Option Bool
+
+-- what no call changes: the list of the source, and the bounds
+pub record Keeps {A S : Type 0} (listing : S → Listing A) (b b' : Bounding S) : Type 0 where
+  pub same : listing b'.source ≡ listing b.source
+  pub lower : b'.lower ≡ b.lower
+  pub upper : b'.upper ≡ b.upper
 
 -- an item that is seen in a direction lies between the bounds
 abbrev pub is_inside : {A : Type 0} → Takes A → Option (List ℕ) → Option (List ℕ) → Bool → A → Bool
@@ -96,14 +102,22 @@ abbrev pub here_between : {A : Type 0} → Takes A → Option (List ℕ) → Opt
 here_between takes lower upper forward (Some xs) s = option_and_then (λ g. item_from forward (between takes lower upper xs) (gap_between takes lower upper xs g)) s.gap
 here_between takes lower upper forward None s = seen_inside takes lower upper forward s.here
 
-abbrev pub stands_between : {A : Type 0} → Takes A → Option (List ℕ) → Option (List ℕ) → Bool → Option (List A) → Standing A → Standing A
-stands_between takes lower upper forward held s = record {
-  gap = option_map (λ g. option_map_or (λ xs. gap_between takes lower upper xs g) held g) s.gap;
-  forward = forward;
-  here = here_between takes lower upper forward held s;
+-- it stands at a gap of the part where it faces a direction, and else at none
+abbrev pub stands_between : {A : Type 0} → Takes A → Option (List ℕ) → Option (List ℕ) → Option Bool → Option (List A) → Standing A → Standing A
+stands_between takes lower upper facing held s = record {
+  gap = option_and_then (λ forward. option_map (λ g. option_map_or (λ xs. gap_between takes lower upper xs g) held g) s.gap) facing;
+  forward = unwrap_or facing true;
+  here = option_and_then (λ forward. here_between takes lower upper forward held s) facing;
   owed = s.owed;
   left = s.left;
 }
+
+-- what a source cut at bounds lists, and where it stands
+abbrev pub lists : {A S : Type 0} → Takes A → (S → Listing A) → Bounding S → Listing A
+lists takes listing b = bounded takes b.lower b.upper (listing b.source)
+
+abbrev pub stands : {A S : Type 0} → Takes A → (S → Listing A) → (S → Standing A) → Bounding S → Standing A
+stands takes listing standing b = stands_between takes b.lower b.upper b.facing (listing b.source).held (standing b.source)
 
 -- forward a gap is not before the lower bound, and backward it is not behind the upper one
 abbrev pub IsOnSide : Bool → (low high g : ℕ) → Type 0

@@ -10,7 +10,7 @@ use Rattle.rk_key.specs.Laws.{key_cmp-total}
 use Rattle.rk_key.proofs.TotalOrders.{lt_itself, lt_back, lt_trans, ge_trans, lt_ge}
 use Rattle.rk_model.specs.Lists.{none_of}
 use Rattle.rk_model.specs.Operations.{within}
-use Rattle.rk_model.specs.Sources.{ascends, is_span, are_spans}
+use Rattle.rk_model.specs.Sources.{ascends, is_extent, are_extents}
 use Rattle.rk_model.specs.declared.span.Span.{Span}
 use Rattle.rk_fragment.specs.Fragments.{keys_over}
 use Rattle.rk_merge.specs.Unions.{Among}
@@ -70,16 +70,16 @@ later_all s (u ∷ us) h up t (inr m) =
     let mid = ge_trans key_cmp-total u.end u.start s.end (lt_back key_cmp-total u.start u.end h.0.proper) (not-true _ (and_parts (apart s u) _ up).0) in
     ge_trans key_cmp-total t.start u.end s.end (h.0.later t m) mid
 
-chain_from : (ss : List Span) → list_all is_span ss ≡ true → ascends apart ss ≡ true → Chain ss
+chain_from : (ss : List Span) → list_all is_extent ss ≡ true → ascends apart ss ≡ true → Chain ss
 chain_from [] all up = tt
 chain_from (s ∷ ss) all up =
-    let here = and_parts (is_span s) (list_all is_span ss) all in
-    let facts = and_parts (lt s.start s.end) (not (none_of s.keys)) (and_parts _ _ here.0).0 in
+    let here = and_parts (is_extent s) (list_all is_extent ss) all in
+    let facts = and_parts (lt s.start s.end) (not (none_of s.keys)) here.0 in
     let rest = chain_from ss here.1 (ascends_tail apart s ss up) in
     (record { proper = facts.0; keyed = not-true _ facts.1; later = later_all s ss rest up }, rest)
 
-pub chain_of : (ss : List Span) → are_spans ss ≡ true → Chain ss
-chain_of ss e = let parts = and_parts (list_all is_span ss) (ascends apart ss) e in chain_from ss parts.0 parts.1
+pub chain_of : (ss : List Span) → are_extents ss ≡ true → Chain ss
+chain_of ss e = let parts = and_parts (list_all is_extent ss) (ascends apart ss) e in chain_from ss parts.0 parts.1
 
 pub proper_of : (ss : List Span) → Chain ss → (t : Span) → Among t ss → (lt t.start t.end ≡ true) × (none_of t.keys ≡ false)
 proper_of [] h t m = absurd m

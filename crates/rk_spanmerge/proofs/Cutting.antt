@@ -13,6 +13,7 @@ use Rattle.rk_key.specs.Laws.{key_cmp-total}
 use Rattle.rk_key.proofs.Equality.{same_key_from_eq}
 use Rattle.rk_key.proofs.TotalOrders.{lt_itself, lt_back, lt_trans}
 use Rattle.rk_model.specs.Operations.{within}
+use Rattle.rk_model.specs.ItemLaws.{are-extents}
 use Rattle.rk_model.specs.Sources.{is_span, are_spans, are_newest_first}
 use Rattle.rk_model.specs.Spans.{sorted_keys, same_bytes, KeysRise}
 use Rattle.rk_model.specs.declared.span.RangeKey.{RangeKey}
@@ -195,7 +196,7 @@ newest_differ (k ∷ ks) d = let r = inserted_differ k (newest_first ks) d in (f
 
 -- the range keys over a key are those of one of the spans
 met_falls : (x : List ℕ) (ss : List Span) → are_spans ss ≡ true → are_newest_first (keys_met true x (near_cut true (takes true x) ss)) ≡ true
-met_falls x ss sorted = go (near_cut true (takes true x) ss) (seen true x ss (chain_of ss sorted))
+met_falls x ss sorted = go (near_cut true (takes true x) ss) (seen true x ss (chain_of ss (are-extents ss sorted)))
   where
     pick : (b : Bool) (ks : List RangeKey) → are_newest_first ks ≡ true → are_newest_first (cond b [] ks) ≡ true
     pick true ks h = refl
@@ -207,5 +208,5 @@ met_falls x ss sorted = go (near_cut true (takes true x) ss) (seen true x ss (ch
 
 pub sorted_cuts_differ : SortedCutsDiffer
 sorted_cuts_differ ss x distinct sorted =
-    let met = met_is true x x (cut_spans ss) (chain_of (cut_spans ss) sorted) (λ t m. refl) in
+    let met = met_is true x x (cut_spans ss) (chain_of (cut_spans ss) (are-extents (cut_spans ss) sorted)) (λ t m. refl) in
     newest_differ (keys_over ss x) (falling_differ (newest_first (keys_over ss x)) (ap are_newest_first (sym (each_key ss x distinct) ∙ met) ∙ met_falls x (cut_spans ss) sorted))

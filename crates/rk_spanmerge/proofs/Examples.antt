@@ -1,7 +1,7 @@
 -- Worked examples: what the definitions give on short lists of spans. Each is computed.
 use Rattle.std.proofs.Common.{◌≡◌, true, false, ℕ, List, [], ◌∷◌, map, Some, None, refl}
 use Rattle.std.specs.Prelude.{codes, nat_eq, ◌&&◌}
-use Rattle.rk_model.specs.Items.{keyed_spans, sound}
+use Rattle.rk_model.specs.Items.{keyed_extents, sound}
 use Rattle.rk_model.specs.Standings.{Listing, free_listing, names}
 use Rattle.rk_model.specs.declared.span.RangeKey.{RangeKey}
 use Rattle.rk_model.specs.declared.span.RangeKind.TheVariants.{Del}
@@ -27,7 +27,7 @@ spans_that_touch_stay_apart = refl
 
 -- the lists of two sources, where two range keys over one key have different numbers, and where they have one
 abbrev lists : ℕ → List (Listing Span)
-lists n = map (λ spans. free_listing (sound keyed_spans spans)) ((span (codes "a") (codes "c") (key 1 ∷ []) ∷ []) ∷ (span (codes "b") (codes "d") (key n ∷ []) ∷ []) ∷ [])
+lists n = map (λ spans. free_listing (sound keyed_extents spans)) ((span (codes "a") (codes "c") (key 1 ∷ []) ∷ []) ∷ (span (codes "b") (codes "d") (key n ∷ []) ∷ []) ∷ [])
 
 abbrev second : Span
 second = span (codes "b") (codes "c") (key 2 ∷ key 1 ∷ [])
@@ -40,6 +40,13 @@ a_merge_that_is_told = refl
 
 one_number_twice : united (lists 1) ≡ None
 one_number_twice = refl
+
+-- a source may list a span whose range keys have one number, but a merge of it isn't told
+abbrev both_at_one : List Span
+both_at_one = span (codes "a") (codes "c") (key 1 ∷ key 1 ∷ []) ∷ []
+
+one_number_in_a_span : (sound keyed_extents both_at_one ≡ Some both_at_one) × (united (free_listing (sound keyed_extents both_at_one) ∷ []) ≡ None)
+one_number_in_a_span = (refl, refl)
 
 a_span_is_seen_from_two_gaps : (gap_from true all_three (Some second) ≡ 1) × (gap_from false all_three (Some second) ≡ 2)
 a_span_is_seen_from_two_gaps = (refl, refl)

@@ -10,7 +10,7 @@ use Rattle.rk_key.proofs.TotalOrders.{eq_from}
 use Rattle.rk_model.specs.Lists.{none_of}
 use Rattle.rk_model.specs.Operations.{within}
 use Rattle.rk_model.specs.Cuts.{count_before, item_from}
-use Rattle.rk_model.specs.Items.{keyed_spans, span_takes}
+use Rattle.rk_model.specs.Items.{keyed_extents, span_takes}
 use Rattle.rk_model.specs.Spans.{sorted_keys}
 use Rattle.rk_model.specs.Standings.{Listing, Standing, IsTold}
 use Rattle.rk_model.specs.declared.span.RangeKey.{RangeKey}
@@ -88,7 +88,7 @@ near_agree : (forward : Bool) (t u : Span → Bool) (xs : List Span) → ((c : S
 near_agree true t u xs same = first_agree t u xs same
 near_agree false t u xs same = last_agree t u xs same
 
-module _ {S : Type 0} (listing : S → Listing Span) (sorted : (s : S) → IfSome (listing s).held (λ xs. IsTrue (keyed_spans xs))) (ss : List S) (spans : List Span) (u : Unites listing sorted ss spans) where
+module _ {S : Type 0} (listing : S → Listing Span) (sorted : (s : S) → IfSome (listing s).held (λ xs. IsTrue (keyed_extents xs))) (ss : List S) (spans : List Span) (u : Unites listing sorted ss spans) where
   abbrev pool : List Span
   pool = pooled (map listing ss)
 
@@ -254,7 +254,7 @@ stands_on t u l s same stands = go l.held same stands
     go None same w = tt
     go (Some ss) same w = w ∙ ap (λ n. Some n) (count_agree t u ss same)
 
-module _ {S : Type 0} (listing : S → Listing Span) (standing : S → Standing Span) (sorted : (s : S) → IfSome (listing s).held (λ xs. IsTrue (keyed_spans xs))) (ss : List S) where
+module _ {S : Type 0} (listing : S → Listing Span) (standing : S → Standing Span) (sorted : (s : S) → IfSome (listing s).held (λ xs. IsTrue (keyed_extents xs))) (ss : List S) where
   -- tests that agree on the spans of the sources, or on those of the merge
   stand_as : (t u : Span → Bool) → ((spans : List Span) → Unites listing sorted ss spans → (c : Span) → Among c (pooled (map listing ss)) → t c ≡ u c) → AllStand listing standing ss t → AllStand listing standing ss u
   stand_as t u same stands = when_told listing sorted ss (λ spans w k d h.
@@ -439,7 +439,7 @@ module _ {S : Type 0} (listing : S → Listing Span) (ss : List S) (forward : Bo
   pub found_start : Found 0 None
   found_start = if_told (united (map listing ss)) (λ spans u. record { among = tt; nearest = λ k h. absurd (omega arith) })
 
-  pub found_more : (standing : S → Standing Span) (sorted : (s : S) → IfSome (listing s).held (λ xs. IsTrue (keyed_spans xs))) (told : (s : S) → IsTold (listing s) (standing s)) (test : Span → Bool) (end : Span → List ℕ) → Looks forward counts test end
+  pub found_more : (standing : S → Standing Span) (sorted : (s : S) → IfSome (listing s).held (λ xs. IsTrue (keyed_extents xs))) (told : (s : S) → IsTold (listing s) (standing s)) (test : Span → Bool) (end : Span → List ℕ) → Looks forward counts test end
       → (i : ℕ) (e : S) (found now : Option (List ℕ)) → i < length ss → e ≡ get_or ss i e → now ≡ with_seen forward counts end found (standing e).here → AllFace standing ss forward → AllStand listing standing ss test → Found i found → Found (i + 1) now
   found_more standing sorted told test end looks i e found now h is put faces stands was = when_told listing sorted ss (λ spans u.
       let items = told_items (listing (get_or ss i e)) in
@@ -488,7 +488,7 @@ pool_keys : {S : Type 0} (listing : S → Listing Span) (f : S → List RangeKey
 pool_keys listing f z [] h = refl
 pool_keys listing f z (s ∷ ss) h = rw (h zero s (omega arith), pool_keys listing f z ss (λ k d l. h (suc k) d (omega arith))) (sym (keys_over_append z (told_items (listing s)) (pooled (map listing ss))))
 
-module _ {S : Type 0} (listing : S → Listing Span) (standing : S → Standing Span) (sorted : (s : S) → IfSome (listing s).held (λ xs. IsTrue (keyed_spans xs))) (told : (s : S) → IsTold (listing s) (standing s)) (ss : List S) (forward : Bool) (x e : List ℕ) (end : Option (List ℕ)) (keys : List RangeKey)
+module _ {S : Type 0} (listing : S → Listing Span) (standing : S → Standing Span) (sorted : (s : S) → IfSome (listing s).held (λ xs. IsTrue (keyed_extents xs))) (told : (s : S) → IsTold (listing s) (standing s)) (ss : List S) (forward : Bool) (x e : List ℕ) (end : Option (List ℕ)) (keys : List RangeKey)
     (at : end ≡ Some e) (faces : AllFace standing ss forward) (stands : AllStand listing standing ss (takes forward x)) (found : IsNear (map listing ss) forward x end) (are : keys ≡ newest_first (flat_map (λ s. keys_met forward x (standing s).here) ss)) where
   near : IsNear (map listing ss) forward x (Some e)
   near = subst (IsNear (map listing ss) forward x) at found

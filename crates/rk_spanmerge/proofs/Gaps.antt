@@ -9,9 +9,9 @@ use Rattle.rk_key.specs.Laws.{key_cmp-total}
 use Rattle.rk_key.proofs.TotalOrders.{lt_itself, lt_ge, ge_lt, lt_back, lt_trans, ge_trans}
 use Rattle.rk_outside.specs.declared.error.SourceError.{SourceError}
 use Rattle.rk_model.specs.Cuts.{count_before, item_from, gap_on, gap_past, is_passed}
-use Rattle.rk_model.specs.Items.{keyed_spans}
+use Rattle.rk_model.specs.Items.{keyed_extents}
 use Rattle.rk_model.specs.Searches.{ended_partitioned, begun_partitioned}
-use Rattle.rk_model.specs.Sources.{are_spans}
+use Rattle.rk_model.specs.Sources.{are_extents}
 use Rattle.rk_model.specs.Standings.{Listing, Standing, IsTold, Leads, Costs, agree, can_step, step_gap, step_from, step_to, walked}
 use Rattle.rk_model.specs.declared.span.Span.{Span}
 use Rattle.rk_model.proofs.Gaps.{past_none, stays_beyond, stays_at_end, cut_within}
@@ -100,18 +100,18 @@ passed_is : (forward : Bool) (x : List ℕ) (t : Span) → is_passed forward (ta
 passed_is true x t = refl
 passed_is false x t = refl
 
-parted : (forward : Bool) (x : List ℕ) (ss : List Span) → IsTrue (are_spans ss) → IsPartitionedBy (takes forward x) ss
+parted : (forward : Bool) (x : List ℕ) (ss : List Span) → IsTrue (are_extents ss) → IsPartitionedBy (takes forward x) ss
 parted true x ss sorted = ended_partitioned x ss sorted
 parted false x ss sorted = begun_partitioned x ss sorted
 
-gap_stays : (forward : Bool) (x : List ℕ) (ss : List Span) → IsTrue (are_spans ss) → (g : ℕ) → g ≤ length ss → (here : Option Span) → item_from forward ss g ≡ here → Outlasts forward x here → gap_past forward (count_before (takes forward x) ss) g ≡ g
+gap_stays : (forward : Bool) (x : List ℕ) (ss : List Span) → IsTrue (are_extents ss) → (g : ℕ) → g ≤ length ss → (here : Option Span) → item_from forward ss g ≡ here → Outlasts forward x here → gap_past forward (count_before (takes forward x) ss) g ≡ g
 gap_stays forward x ss sorted g le None e out = stays_at_end forward (takes forward x) ss g le e
 gap_stays forward x ss sorted g le (Some t) e out = stays_beyond forward (takes forward x) ss g t (parted forward x ss sorted) e (passed_is forward x t ∙ ap not out)
 
-pub passed_stays : (forward : Bool) (x : List ℕ) (l : Listing Span) (s : Standing Span) → IfSome l.held (λ xs. IsTrue (keyed_spans xs)) → IsTold l s → IsFacing forward s → Outlasts forward x s.here → Passed forward x l s s
+pub passed_stays : (forward : Bool) (x : List ℕ) (l : Listing Span) (s : Standing Span) → IfSome l.held (λ xs. IsTrue (keyed_extents xs)) → IsTold l s → IsFacing forward s → Outlasts forward x s.here → Passed forward x l s s
 passed_stays forward x l s ordered told faces out = record { gap = gap l.held s.gap faces.known ordered told.within told.shown; faces = faces; beyond = out; moved = inl (refl, refl) }
   where
-    gap : (h : Option (List Span)) (p : Option ℕ) → is_some p ≡ true → IfSome h (λ xs. IsTrue (keyed_spans xs)) → IfSome h (λ xs. IfSome p (λ g. g ≤ length xs)) → IfSome h (λ xs. IfSome p (λ g. s.here ≡ item_from s.forward xs g))
+    gap : (h : Option (List Span)) (p : Option ℕ) → is_some p ≡ true → IfSome h (λ xs. IsTrue (keyed_extents xs)) → IfSome h (λ xs. IfSome p (λ g. g ≤ length xs)) → IfSome h (λ xs. IfSome p (λ g. s.here ≡ item_from s.forward xs g))
         → IfSome h (λ ss. p ≡ option_map (gap_past forward (count_before (takes forward x) ss)) p)
     gap None p k o w f = tt
     gap (Some ss) None k o w f = cc
@@ -139,7 +139,7 @@ passed_stands forward z x l l' s s' e past at passed = rw e (go l.held at passed
     go None a b = tt
     go (Some ss) a b = b ∙ ap (option_map _) a ∙ ap (λ n. Some n) (further forward past ss)
 
-among_get : {A : Type 0} (xs : List A) (x : A) → Among x xs → (i : ℕ) × (slice_get xs i ≡ Some x)
+pub among_get : {A : Type 0} (xs : List A) (x : A) → Among x xs → (i : ℕ) × (slice_get xs i ≡ Some x)
 among_get [] x m = absurd m
 among_get (y ∷ ys) x (inl e) = (zero, ap (λ z. Some z) (sym e))
 among_get (y ∷ ys) x (inr m) = let f = among_get ys x m in (suc f.0, f.1)

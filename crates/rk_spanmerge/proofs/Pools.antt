@@ -10,7 +10,9 @@ use Rattle.rk_key.specs.KeyTests.{is_key}
 use Rattle.rk_key.proofs.KeyTests.{key_by_test}
 use Rattle.rk_model.specs.Operations.{within}
 use Rattle.rk_model.specs.Lists.{none_of}
-use Rattle.rk_model.specs.Items.{keyed_spans}
+use Rattle.rk_model.specs.ItemLaws.{are-extents}
+use Rattle.rk_model.specs.Items.{keyed_extents, keyed_spans}
+use Rattle.rk_model.specs.Sources.{are_spans}
 use Rattle.rk_model.specs.Standings.{Listing}
 use Rattle.rk_model.specs.declared.span.Span.{Span}
 use Rattle.rk_model.proofs.Members.{all_among, every_gives, among_append, among_map, among_flat_map}
@@ -45,7 +47,7 @@ pub whole : (ls : List (Listing Span)) (spans : List Span) → united ls ≡ Som
 whole ls spans e = go (all_told ls) (keyed_spans (cut_spans (pooled ls))) refl refl e
   where
     go : (a b : Bool) → all_told ls ≡ a → keyed_spans (cut_spans (pooled ls)) ≡ b → cond a (cond b (Some (cut_spans (pooled ls))) None) None ≡ Some spans → Whole ls spans
-    go true true p q e = let is : cut_spans (pooled ls) ≡ spans = cc in record { told = p; chain = subst Chain is (chain_of _ (and_parts _ _ q).0); is = is }
+    go true true p q e = let is : cut_spans (pooled ls) ≡ spans = cc in record { told = p; chain = subst Chain is (chain_of (cut_spans (pooled ls)) (are-extents (cut_spans (pooled ls)) (and_parts (are_spans (cut_spans (pooled ls))) _ q).0)); is = is }
     go true false p q e = cc
     go false b p q e = cc
 
@@ -66,9 +68,9 @@ pub keys_over_append : (x : List ℕ) (ss ts : List Span) → keys_over (ss ++ t
 keys_over_append x ss ts = ap (flat_map (λ s. s.keys)) (filter-append (λ s. within s.start s.end x) ss ts) ∙ flat_map-append (λ (s : Span). s.keys) (filter (λ s. within s.start s.end x) ss) (filter (λ s. within s.start s.end x) ts)
 
 -- the lists of sources that are told
-module _ {S : Type 0} (listing : S → Listing Span) (sorted : (s : S) → IfSome (listing s).held (λ xs. IsTrue (keyed_spans xs))) (ss : List S) where
-  keyed_at : all_told (map listing ss) ≡ true → (k : ℕ) (d : S) → k < length ss → keyed_spans (told_items (listing (get_or ss k d))) ≡ true
-  keyed_at told k d h = told_list (listing (get_or ss k d)).held (λ l. keyed_spans l ≡ true) (told_at listing ss told k d h) (sorted (get_or ss k d))
+module _ {S : Type 0} (listing : S → Listing Span) (sorted : (s : S) → IfSome (listing s).held (λ xs. IsTrue (keyed_extents xs))) (ss : List S) where
+  keyed_at : all_told (map listing ss) ≡ true → (k : ℕ) (d : S) → k < length ss → keyed_extents (told_items (listing (get_or ss k d))) ≡ true
+  keyed_at told k d h = told_list (listing (get_or ss k d)).held (λ l. keyed_extents l ≡ true) (told_at listing ss told k d h) (sorted (get_or ss k d))
 
   pub chain_at : all_told (map listing ss) ≡ true → (k : ℕ) (d : S) → k < length ss → Chain (told_items (listing (get_or ss k d)))
   chain_at told k d h = chain_of _ (and_parts _ _ (keyed_at told k d h)).0

@@ -2,24 +2,19 @@
 use Rattle.std.specs.Prelude.{◌≡◌, ◌+◌, ◌≤◌, Bool, true, false, not, List, [], ◌∷◌, length, map, Option, Some, None, if◌then◌else◌, IfSome, IsTrue, refl}
 use Rattle.std.proofs.Common.{arith}
 use Rattle.rk_model.specs.Cuts.{count_before, item_from}
-use Rattle.rk_model.specs.Items.{span_beside, keyed_spans, sound}
+use Rattle.rk_model.specs.ItemLaws.{spans-extents}
+use Rattle.rk_model.specs.Items.{span_beside, keyed_extents, keyed_spans, sound}
+use Rattle.rk_model.specs.ListingLaws.{of_sound}
 use Rattle.rk_model.specs.Standings.{Listing, Standing, IsTold, WalksRise, IsFree}
 use Rattle.rk_model.specs.declared.span.Span.{Span}
 use Rattle.rk_merge.specs.Pools.{all_told}
 use Rattle.rk_spanmerge.specs.Merges.{Merging, united, merged, merged_gap, merged_here, merged_standing, gap_from, left_end, cut_spans, pooled}
 
-sound_sorted : (ss : List Span) → IfSome (sound keyed_spans ss) (λ xs. IsTrue (keyed_spans xs))
-sound_sorted ss = go (keyed_spans ss) refl
-  where
-    go : (b : Bool) → keyed_spans ss ≡ b → IfSome (if b then Some ss else None) (λ xs. IsTrue (keyed_spans xs))
-    go true e = e
-    go false e = tt
-
-sorted_if : (b : Bool) (ss : List Span) → IfSome (if b then sound keyed_spans ss else None) (λ xs. IsTrue (keyed_spans xs))
-sorted_if true ss = sound_sorted ss
+sorted_if : (b : Bool) (ss : List Span) → IfSome (if b then sound keyed_spans ss else None) (λ xs. IsTrue (keyed_extents xs))
+sorted_if true ss = of_sound keyed_spans ss (λ xs. IsTrue (keyed_extents xs)) (spans-extents ss)
 sorted_if false ss = tt
 
-pub united-ordered : (ls : List (Listing Span)) → IfSome (united ls) (λ xs. IsTrue (keyed_spans xs))
+pub united-ordered : (ls : List (Listing Span)) → IfSome (united ls) (λ xs. IsTrue (keyed_extents xs))
 united-ordered ls = sorted_if (all_told ls) (cut_spans (pooled ls))
 
 count_within : (t : Span → Bool) (xs : List Span) → count_before t xs ≤ length xs

@@ -11,8 +11,7 @@ use Rattle.rk_model.specs.Standings.{Listing, Standing}
 use Rattle.rk_model.specs.declared.span.RangeKey.{RangeKey}
 use Rattle.rk_model.specs.declared.span.Span.{Span}
 use Rattle.rk_fragment.specs.Fragments.{newest_first, spans_between, keys_over, KeysDiffer}
-use Rattle.rk_merge.specs.Pools.{total}
-use Rattle.rk_merge.specs.Pools.{told_items, all_told, some_names}
+use Rattle.rk_merge.specs.Pools.{total, told_items, all_told, some_names}
 
 -- the starts and ends of spans
 abbrev pub span_ends : List Span → List (List ℕ)
@@ -34,8 +33,8 @@ are_distinct xs = list_all (λ x. list_all (λ y. not (is_eq (key_cmp x y)) || s
 abbrev pub ReadKeysAreDistinct : Type 0
 ReadKeysAreDistinct = (xs : List (List ℕ)) → AllByRecursion IsKey xs → IsTrue (are_distinct xs)
 
--- Spans that are cut at each other's ends are spans as a source holds them, where no two range keys over one key
--- have one number.
+-- Spans that are cut at each other's ends are in order, with the newest range keys first, where no two range keys
+-- over one key have one number.
 abbrev pub CutSpansAreSpans : Type 0
 CutSpansAreSpans = (ss : List Span) → ((x : List ℕ) → KeysDiffer (keys_over ss x)) → IsTrue (are_spans (cut_spans ss))
 

@@ -34,6 +34,13 @@ impl Cover {
         }
     }
 
+    /// The pairs of a vector, which is kept as it is.
+    pub(crate) fn from_vec(pairs: Vec<SuffixValue>) -> Cover
+        ensures { result ≡ pairs.items }
+    {
+        Cover { pairs }
+    }
+
     pub(crate) fn pairs(&self) -> &[SuffixValue]
         ensures { result.now ≡ self.now }
     {

@@ -39,7 +39,8 @@ impl Op {
         matches!(self, Op::Put { .. } | Op::Del { .. })
     }
 
-    pub(crate) fn put_value(&self) -> Option<&Bytes>
+    /// The value of a put.
+    pub fn put_value(&self) -> Option<&Bytes>
         ensures { option_copied result ≡ put_value self.now }
     {
         match self {

@@ -19,9 +19,9 @@ use rk_outside::NoMemory;
 use std::alloc::Global;
 use std::marker::Model;
 
-/// A widest span with one cover. Contracts see the record of its parts.
+/// A widest span with one cover, as an iterator keeps it. Contracts see the record of its parts.
 #[derive(Debug, Drop)]
-pub(crate) struct KeptSpan {
+pub struct KeptSpan {
     start: UserKey,
     end: UserKey,
     cover: Cover,
@@ -36,26 +36,40 @@ impl Model for KeptSpan {
 }
 
 impl KeptSpan {
-    pub(crate) fn start(&self) -> &UserKey
+    /// The span between these ends, with these pairs, which are kept as they are. It takes no memory.
+    pub fn new(start: UserKey, end: UserKey, pairs: Vec<SuffixValue>) -> KeptSpan
+        ensures { result ≡ record { start = start; end = end; cover = pairs.items } }
+    {
+        KeptSpan {
+            start,
+            end,
+            cover: Cover::from_vec(pairs),
+        }
+    }
+
+    /// Where it begins.
+    pub fn start(&self) -> &UserKey
         ensures { result.now ≡ self.now.start }
     {
         &self.start
     }
 
-    pub(crate) fn end(&self) -> &UserKey
+    /// Where it ends.
+    pub fn end(&self) -> &UserKey
         ensures { result.now ≡ self.now.end }
     {
         &self.end
     }
 
-    pub(crate) fn pairs(&self) -> &[SuffixValue]
+    /// The pairs that hold over it, ascending by suffix.
+    pub fn pairs(&self) -> &[SuffixValue]
         ensures { result.now ≡ self.now.cover }
     {
         self.cover.pairs()
     }
 
     /// Whether another span has the same ends and the same pairs.
-    pub(crate) fn is_same(&self, other: &KeptSpan) -> bool
+    pub fn is_same(&self, other: &KeptSpan) -> bool
         ensures { result ≡ (same_bytes self.now.start other.now.start && same_bytes self.now.end other.now.end && same_cover self.now.cover other.now.cover) }
     {
         is_same_bytes(self.start.bytes(), other.start.bytes())
@@ -79,7 +93,7 @@ fn is_same_pair(p: &SuffixValue, q: &SuffixValue) -> bool
 
 /// Whether two covers have the same bytes.
 #[tactic(auto, using(crate::proofs::Spans::uneven))]
-pub(crate) fn is_same_cover(ps: &[SuffixValue], qs: &[SuffixValue]) -> bool
+pub fn is_same_cover(ps: &[SuffixValue], qs: &[SuffixValue]) -> bool
     ensures { result ≡ same_cover ps.now qs.now }
 {
     if ps.len() != qs.len() {

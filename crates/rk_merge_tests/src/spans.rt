@@ -1,4 +1,5 @@
 // Merged spans, by hand.
+use crate::walks::step_span;
 use rk_key::{UserKey, read_key};
 use rk_model::{Cut, ListSpans, RangeKey, RangeKeys, RangeKind, Span, SpanSource};
 use rk_outside::{Bytes, Counting, NoReads};
@@ -52,22 +53,6 @@ fn shows<R: Counting, S: SpanSource<R>>(spans: &S, wanted: Wanted) -> bool {
         && keys.iter().zip(numbers).all(|(key, seq)| key.seq == *seq)
 }
 
-/// One step, where there is a span.
-fn step<R: Counting, S: SpanSource<R>>(
-    spans: &mut S,
-    reader: &mut R,
-    forward: bool,
-) -> Result<(), Fail> {
-    if spans.here().is_some() {
-        if forward {
-            spans.next(reader)?;
-        } else {
-            spans.prev(reader)?;
-        }
-    }
-    Ok(())
-}
-
 /// Whether a seek of a key, and then steps, each forward or backward, lead each to the span that is wanted. The last
 /// step leads to none, where that is said.
 fn leads<R: Counting, S: SpanSource<R>>(
@@ -84,7 +69,7 @@ fn leads<R: Counting, S: SpanSource<R>>(
         return Ok(false);
     }
     for (forward, wanted) in steps {
-        step(spans, reader, *forward)?;
+        step_span(spans, reader, *forward)?;
         if !shows::<R, S>(spans, *wanted) {
             return Ok(false);
         }
@@ -92,7 +77,7 @@ fn leads<R: Counting, S: SpanSource<R>>(
     let Some(forward) = beyond else {
         return Ok(true);
     };
-    step(spans, reader, forward)?;
+    step_span(spans, reader, forward)?;
     Ok(spans.here().is_none())
 }
 

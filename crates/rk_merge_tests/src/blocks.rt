@@ -1,6 +1,6 @@
 // Merges of sources that read blocks: a block is read where a walk comes into it, and no more often.
 use crate::paged::{Paged, Pages};
-use crate::walks::{is_refused, walk};
+use crate::walks::{is_refused, step_span, walk};
 use rk_key::{UserKey, read_key, read_suffix};
 use rk_model::{Entry, Op, PointSource, RangeKey, RangeKeys, RangeKind, Source, Span, SpanSource};
 use rk_outside::{Bytes, Counting, SourceError};
@@ -127,13 +127,7 @@ fn steps<R: Counting, S: SpanSource<R>>(
     forward: bool,
 ) -> Result<u64, SourceError> {
     for _ in 0..count {
-        if spans.here().is_some() {
-            if forward {
-                spans.next(reader)?;
-            } else {
-                spans.prev(reader)?;
-            }
-        }
+        step_span(spans, reader, forward)?;
     }
     Ok(newest::<R, S>(spans))
 }

@@ -1,9 +1,7 @@
 // Sources cut at bounds, and of two kinds.
-ghost use Rattle.std.specs.Prelude.{◌≡◌, IfOk, None};
-
-use crate::walks::{turn_at_end, walk, walk_from};
+use crate::walks::{number, turn_at_end, walk, walk_from};
 use rk_key::read_key;
-use rk_model::{Cut, Entry, ListPoints, Op};
+use rk_model::{Cut, Entry, ListPoints, Op, PointSource};
 use rk_outside::{Bytes, NoReads};
 use rk_sources::{Bounded, Either};
 use std::alloc::Global;
@@ -11,10 +9,8 @@ use std::test::Fail;
 
 type Points = Either<ListPoints, Bounded<ListPoints>>;
 
-/// A set of each of the keys `a`, `b`, `c` and `d`.
-fn list(alloc: Global) -> Result<ListPoints, Fail>
-    ensures { IfOk result (λ points. points.gap ≡ None) }
-{
+/// A put of each of the keys `a`, `b`, `c` and `d`.
+fn list(alloc: Global) -> Result<ListPoints, Fail> {
     let mut entries = Vec::new(alloc);
     for (key, seq) in [(b"a", 1), (b"b", 2), (b"c", 3), (b"d", 4)] {
         let key = read_key(alloc, key)?;
@@ -62,6 +58,18 @@ fn nothing_lies_between_bounds_that_meet(rt: HostRuntime) -> Result<(), Fail> {
     let mut points = bounded(rt.alloc(), b"c", b"c")?;
     let numbers = walk(rt.alloc(), &mut points, &mut NoReads, b"a", &[])?;
     assert_eq!(rt; numbers.as_slice(), [0].as_slice());
+    Ok(())
+}
+
+#[test]
+fn a_source_that_stands_below_the_bounds_is_lost_until_a_seek(rt: HostRuntime) -> Result<(), Fail> {
+    let alloc = rt.alloc();
+    let mut source = list(alloc)?;
+    source.seek_ge(&mut NoReads, &read_key(alloc, b"a")?)?;
+    let mut points = Bounded::new(source, Some(read_key(alloc, b"c")?), None);
+    assert_eq!(rt; number(&points, &NoReads), 0);
+    let numbers = walk(alloc, &mut points, &mut NoReads, b"a", &[true, true])?;
+    assert_eq!(rt; numbers.as_slice(), [3, 4, 0].as_slice());
     Ok(())
 }
 
