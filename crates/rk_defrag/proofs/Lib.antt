@@ -1,0 +1,9 @@
+pub mod Runs
+pub mod Walks
+pub mod Places
+pub mod Parts
+pub mod Seeks
+pub mod Leaving
+pub mod Whole
+pub mod Found
+pub mod Methods

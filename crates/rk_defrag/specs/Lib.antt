@@ -1,0 +1,3 @@
+pub mod Defrags
+pub mod Moves
+pub mod DefragLaws

@@ -1,0 +1,11 @@
+pub mod Stepping
+pub mod Orders
+pub mod Cutting
+pub mod Parts
+pub mod Near
+pub mod Found
+pub mod Landing
+pub mod Reporting
+pub mod Travelling
+pub mod Reaching
+pub mod Arriving

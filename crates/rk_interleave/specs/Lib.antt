@@ -1,0 +1,4 @@
+pub mod Interleaving
+pub mod Showing
+pub mod Settling
+pub mod Standing

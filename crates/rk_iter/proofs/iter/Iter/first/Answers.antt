@@ -1,0 +1,17 @@
+use Rattle.std.proofs.Common.{subst}
+use Rattle.rk_model.specs.Moves.{First}
+use Rattle.rk_iter.specs.Iterating.{Moves}
+use Rattle.rk_iter.specs.Inside.{listed_points, listed_spans}
+use Rattle.rk_iter.proofs.Moved.{over, holds_on, moves_on}
+use Rattle.rk_iter.proofs.iter.Iter.first.Goals as goal
+
+pub invariant_of-self : goal.invariant_of-self
+invariant_of-self c = holds_on listed_points listed_spans c.self.inside.pins.chunks c.self.inside.pins.number c.self.inside.inside c.first.new.self First c.self.invariant tt c.first.result c.first.ensures.moves
+
+pub returns : goal.returns
+returns c = record {
+  moves =
+      let made = c.first.ensures in
+      subst (λ it. Moves it (over c.self.inside.pins.chunks c.self.inside.pins.number c.first.new.self) First c.first.result) c.self.view_is
+      (moves_on listed_points listed_spans c.self.inside.pins.chunks c.self.inside.pins.number c.self.inside.inside c.first.new.self First c.self.invariant tt c.first.result made.moves made.reads.cause);
+}
