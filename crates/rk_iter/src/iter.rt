@@ -61,7 +61,8 @@ impl Iter {
     ///
     /// `NoMemory` where a bound, a source or the spans of a chunk find no memory.
     pub fn open(alloc: Global, pins: MemPins, options: &IterOptions) -> Result<Iter, NoMemory>
-        ensures { IfOk result (λ it. it ≡ record { chunks = pins.chunks; number = pins.number; options = options.now; cursor = Fresh; value = None; span = None; changed = false }) }
+        ensures opened { IfOk result (λ it. it ≡ record { chunks = pins.chunks; number = pins.number; options = options.now; cursor = Fresh; value = None; span = None; changed = false }) }
+        ensures bounds { IfOk result (λ _. KeyBounds options.now) }
     {
         are_keys(options);
         let points = points_of(alloc, &pins.chunks)?;
@@ -129,6 +130,7 @@ impl Iter {
     /// `Memory` where what it shows finds no memory. It stays as it was.
     pub fn seek_ge(&mut self, key: &UserKey) -> Result<bool, SourceError>
         ensures moves { Moves self.old self.new (SeekGe key.now) result }
+        ensures keyed { IsKey key.now }
     {
         // That it is a key is what it says when it lends its bytes.
         let _bytes = key.bytes();
@@ -142,6 +144,7 @@ impl Iter {
     /// `Memory` where what it shows finds no memory. It stays as it was.
     pub fn seek_lt(&mut self, key: &UserKey) -> Result<bool, SourceError>
         ensures moves { Moves self.old self.new (SeekLt key.now) result }
+        ensures keyed { IsKey key.now }
     {
         // That it is a key is what it says when it lends its bytes.
         let _bytes = key.bytes();

@@ -1,14 +1,20 @@
 -- A worked example: a run of the machine, in which an iterator goes on seeing what its snapshot does. Each step is
 -- computed.
-use Rattle.std.proofs.Common.{◌≡◌, List, [], ◌∷◌, Some, None, refl, arith}
+use Rattle.std.proofs.Common.{◌≡◌, List, [], ◌∷◌, Some, None, refl, arith, inl}
 use Rattle.std.specs.Prelude.{codes}
 use Rattle.rk_model.specs.Moves.{First, Next}
 use Rattle.rk_model.specs.declared.cursor.Cursor.TheVariants.{At, End}
 use Rattle.rk_model.specs.declared.op.Op.{Op}
 use Rattle.rk_model.specs.declared.op.Op.TheVariants.{Put}
 use Rattle.rk_model.specs.declared.options.IterOptions.{IterOptions}
-use Rattle.rk_machine.specs.Machine.{Open, State, start, Event, Commit, Snap, Release, OpenAt, Moves, Close, Reply, Committed, EmptyBatch, Number, Released, Opened, Stands, Closed, opened, moved_on}
-use Rattle.rk_machine.specs.Runs.{Done, IsRun, last_state}
+use Rattle.rk_outside.specs.declared.error.StoreError.TheVariants.{EmptyBatch, NoSnap, MemFull}
+use Rattle.rk_machine.specs.State.{Open, State, start}
+use Rattle.rk_machine.specs.Events.{Event, Commit, Snap, Release, OpenAt, Moves, Close, Reply, Committed, Number, Released, Opened, Stands, Closed, Refused}
+use Rattle.rk_machine.specs.Commits.{after_commit, commit_due}
+use Rattle.rk_machine.specs.Snapshots.{if_not_live}
+use Rattle.rk_machine.specs.Iterators.{opened, moved_on}
+use Rattle.rk_machine.specs.Machine.{IsAllowed, Answers, Step}
+use Rattle.rk_machine.specs.Runs.{Happened, IsRun, last_state}
 
 abbrev put_a : Op
 put_a = Put (codes "a") (codes "x")
@@ -20,7 +26,7 @@ abbrev everything : IterOptions
 everything = record { lower = None; upper = None; mask = None }
 
 abbrev one_commit : State
-one_commit = record start { history = (put_a ∷ []) ∷ [] }
+one_commit = record start { history = (put_a ∷ []) ∷ []; memory = record { active = 9; frozen = 0 } }
 
 abbrev one_snapshot : State
 one_snapshot = record one_commit { live = 1 ∷ [] }
@@ -39,15 +45,15 @@ abbrev with_iterator : Open → State
 with_iterator it = record one_snapshot { iterators = (codes "i", it) ∷ [] }
 
 abbrev two_commits : Open → State
-two_commits it = record (with_iterator it) { history = (put_a ∷ []) ∷ (put_b ∷ []) ∷ [] }
+two_commits it = record (with_iterator it) { history = (put_a ∷ []) ∷ (put_b ∷ []) ∷ []; memory = record { active = 18; frozen = 0 } }
 
-abbrev done : Event → Reply → State → Done
+abbrev done : Event → Reply → State → Happened
 done event reply after = record { event = event; reply = reply; after = after }
 
-abbrev steps : List Done
+abbrev steps : List Happened
 steps =
     done (Commit (put_a ∷ [])) (Committed 1 1) one_commit
-    ∷ done (Commit []) EmptyBatch one_commit
+    ∷ done (Commit []) (Refused EmptyBatch) one_commit
     ∷ done Snap (Number 1) one_snapshot
     ∷ done (OpenAt (codes "i") (Some 1) everything) (Opened 1) (with_iterator fresh)
     ∷ done (Commit (put_b ∷ [])) (Committed 2 2) (two_commits fresh)
@@ -57,35 +63,35 @@ steps =
     ∷ done (Close (codes "i")) Closed (record (two_commits next) { live = []; iterators = [] })
     ∷ []
 
+-- each step is allowed, and done or due
+step : {m : State} {event : Event} {reply : Reply} {m' : State} → IsAllowed m event → Answers m event reply m' → Step m event reply m'
+step allowed answer = record { allowed = allowed; answer = answer }
+
 the_steps_are_a_run : IsRun start steps
-the_steps_are_a_run = (
-  (refl, refl),
-  (
-    (refl, refl),
-    (
-      (refl, refl),
-      (
-        (refl, (0, omega arith, refl), refl, refl),
-        (
-          (refl, refl),
-          (
-            (fresh, refl, refl, refl),
-            (
-              (([], [], refl, refl), refl, refl),
-              (
-                (first, refl, refl, refl),
-                ((next, refl, refl, refl), tt),
-              ),
-            ),
-          ),
-        ),
-      ),
-    ),
-  ),
-)
+the_steps_are_a_run = (step tt (inl (refl, refl)), (step tt (refl, refl), (step tt (inl (refl, refl)), (step refl (inl (refl, refl)), (step tt (inl (refl, refl)), (step refl (inl (fresh, refl, refl, refl)), (step tt (inl (refl, (([], [], refl, refl), refl))), (step refl (inl (first, refl, refl, refl)), (step refl (inl (refl, refl)), tt)))))))))
 
 the_iterator_sees_what_its_snapshot_saw : (first.view.cursor ≡ At (codes "a")) × (next.view.cursor ≡ End)
 the_iterator_sees_what_its_snapshot_saw = (refl, refl)
 
 both_commits_stay : (last_state start steps).history ≡ (put_a ∷ []) ∷ (put_b ∷ []) ∷ []
 both_commits_stay = refl
+
+-- a memtable with little room, and a batch of nine bytes
+abbrev nearly_full : State
+nearly_full = record start { memory = record { active = 4194300; frozen = 0 } }
+
+the_memtable_is_frozen : (after_commit (put_a ∷ []) nearly_full).memory ≡ record { active = 9; frozen = 4194300 }
+the_memtable_is_frozen = refl
+
+-- where one is frozen, none is frozen again
+abbrev full : State
+full = record start { memory = record { active = 4194300; frozen = 9 } }
+
+a_full_memtable_is_told : commit_due full (put_a ∷ []) ≡ Some (Refused (MemFull 4194300 9))
+a_full_memtable_is_told = refl
+
+a_commit_may_fill_it : commit_due (record start { memory = record { active = 4194295; frozen = 9 } }) (put_a ∷ []) ≡ None
+a_commit_may_fill_it = refl
+
+no_snapshot_is_there : if_not_live start 5 ≡ Some (Refused (NoSnap 5))
+no_snapshot_is_there = refl

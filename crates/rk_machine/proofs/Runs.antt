@@ -1,10 +1,14 @@
 -- Along a run the history goes on.
-use Rattle.std.proofs.Common.{◌≡◌, List, [], ◌∷◌, ◌++◌, refl, ap, sym, ◌∙◌, subst, arith, append-nil, append_assoc}
+use Rattle.std.proofs.Common.{◌≡◌, ◌⊎◌, List, [], ◌∷◌, ◌++◌, refl, ap, sym, ◌∙◌, subst, arith, append-nil, append_assoc, inl, inr}
 use Rattle.rk_model.specs.Operations.{History}
 use Rattle.rk_model.specs.Histories.{AreCommits}
 use Rattle.rk_model.specs.declared.op.Op.{Op}
-use Rattle.rk_machine.specs.Machine.{State, Event, Reply, Step, Commit, Snap, Release, OpenAt, Moves, Close}
+use Rattle.rk_machine.specs.State.{State}
+use Rattle.rk_machine.specs.Events.{Event, Commit, Snap, Release, OpenAt, Moves, Close, CloseCore, Reply}
+use Rattle.rk_machine.specs.Commits.{after_commit}
+use Rattle.rk_machine.specs.Machine.{Done, Answers, Step}
 use Rattle.rk_machine.specs.Runs.{last_state, GoesOn, HistoriesGoOn}
+use Rattle.rk_machine.proofs.Steps.{stays_or_done, history_of_commit}
 
 stays : (h : History) → GoesOn h h
 stays h = record { more = ([], sym (append-nil h)); commits = λ all. all }
@@ -22,17 +26,30 @@ further a b c one two = record {
   commits = λ all. two.commits (one.commits all);
 }
 
-same_history : (m n m' : State) → m' ≡ n → GoesOn m.history n.history → GoesOn m.history m'.history
-same_history m n m' is on = subst (λ s. GoesOn m.history s.history) (sym is) on
+-- a state with the history of another goes on from where that one does
+keeps : (m n : State) → n.history ≡ m.history → GoesOn m.history n.history
+keeps m n is = subst (λ h. GoesOn m.history h) (sym is) (stays m.history)
 
+-- what is done by a commit of some operations, and by any other event
+committed : (m : State) (op : Op) (ops : List Op) (m' : State) → m' ≡ after_commit (op ∷ ops) m → GoesOn m.history m'.history
+committed m op ops m' done = subst (λ h. GoesOn m.history h) (sym (history_of_commit m (op ∷ ops) m' done)) (commits m.history op ops)
+
+done_on : (m : State) (event : Event) (reply : Reply) (m' : State) → (m' ≡ m) ⊎ Done m event reply m' → (event ≡ Commit [] → m' ≡ m) → GoesOn m.history m'.history
+done_on m event reply m' (inl same) empty = keeps m m' (ap (λ n. n.history) same)
+done_on m (Commit []) reply m' (inr done) empty = keeps m m' (ap (λ n. n.history) (empty refl))
+done_on m (Commit (op ∷ ops)) reply m' (inr done) empty = committed m op ops m' done.1
+done_on m Snap reply m' (inr done) empty = keeps m m' (ap (λ n. n.history) done.1)
+done_on m (Release number) reply m' (inr done) empty = keeps m m' (ap (λ n. n.history) done.1.1)
+done_on m (OpenAt name at options) reply m' (inr done) empty = keeps m m' (ap (λ n. n.history) done.1)
+done_on m (Moves name move) reply m' (inr done) empty = keeps m m' (ap (λ n. n.history) done.3)
+done_on m (Close name) reply m' (inr done) empty = keeps m m' (ap (λ n. n.history) done.1)
+done_on m CloseCore reply m' (inr done) empty = keeps m m' (ap (λ n. n.history) done.1)
+
+-- a commit without operations is refused, and leaves all
 step_on : (m : State) (event : Event) (reply : Reply) (m' : State) → Step m event reply m' → GoesOn m.history m'.history
-step_on m (Commit []) reply m' s = same_history m m m' s.1 (stays m.history)
-step_on m (Commit (op ∷ ops)) reply m' s = same_history m _ m' s.1 (commits m.history op ops)
-step_on m Snap reply m' s = same_history m _ m' s.1 (stays m.history)
-step_on m (Release number) reply m' s = same_history m _ m' s.2 (stays m.history)
-step_on m (OpenAt name at options) reply m' s = same_history m _ m' s.3 (stays m.history)
-step_on m (Moves name move) reply m' s = same_history m _ m' s.3 (stays m.history)
-step_on m (Close name) reply m' s = same_history m _ m' s.3 (stays m.history)
+step_on m event reply m' s = done_on m event reply m' (stays_or_done m event reply m' s) empty where
+  empty : event ≡ Commit [] → m' ≡ m
+  empty is = (subst (λ e. Answers m e reply m') is s.answer).1
 
 pub goes_on : HistoriesGoOn
 goes_on m [] run = stays m.history

@@ -1,2 +1,10 @@
+pub mod Sizes
+pub mod State
+pub mod Events
+pub mod Due
+pub mod Commits
+pub mod Snapshots
+pub mod Iterators
+pub mod Faults
 pub mod Machine
 pub mod Runs

@@ -1,81 +1,49 @@
--- The machine: its state, its events, and its steps.
-use Rattle.std.specs.Prelude.{◌≡◌, ℕ, ◌+◌, List, [], ◌∷◌, ◌++◌, length, if◌then◌else◌, Option, Some, None, Contains, IfSome}
-use Rattle.std.specs.Option.{option_map_or}
-use Rattle.rk_model.specs.Covers.{upto}
-use Rattle.rk_model.specs.Moves.{Move, View, opened_over, after_move}
-use Rattle.rk_model.specs.Named.{named, with_named}
-use Rattle.rk_model.specs.Operations.{History, entries, last}
-use Rattle.rk_model.specs.Spans.{same_bytes}
-use Rattle.rk_model.specs.declared.op.Op.{Op}
-use Rattle.rk_model.specs.declared.options.IterOptions.{IterOptions}
+-- The steps of the machine.
+use Rattle.std.specs.Prelude.{◌≡◌, List, [], ◌∷◌, Option, None, IsSome, ◌⊎◌, ⊤}
+use Rattle.rk_model.specs.Named.{named}
+use Rattle.rk_model.specs.Operations.{last}
+use Rattle.rk_machine.specs.State.{State}
+use Rattle.rk_machine.specs.Events.{Event, Commit, Snap, Release, OpenAt, Moves, Close, CloseCore, Reply, Number, Released, Opened, Closed, CoreClosed}
+use Rattle.rk_machine.specs.Due.{Unless}
+use Rattle.rk_machine.specs.Commits.{commit_due, numbers_of, after_commit}
+use Rattle.rk_machine.specs.Snapshots.{snap_due, after_snap, if_not_live, Releases}
+use Rattle.rk_machine.specs.Iterators.{open_due, opened, after_open, MovesOn, after_closing}
+use Rattle.rk_machine.specs.Faults.{Fails}
 
--- An open iterator: the number that its opening fixed, and what it sees and shows
-pub record Open : Type 0 where
-  pub number : ℕ
-  pub view : View
+-- what the caller sees to: a name to be made is free, and one that is used is there
+abbrev pub IsAllowed : State → Event → Type 0
+IsAllowed m (OpenAt name at options) = named name m.iterators ≡ None
+IsAllowed m (Moves name move) = IsSome (named name m.iterators)
+IsAllowed m (Close name) = IsSome (named name m.iterators)
+IsAllowed m other = ⊤
 
--- The state: the commits, the number of each live snapshot, and the open iterators by their names. A number stands in
--- `live` once for each of its snapshots.
-pub record State : Type 0 where
-  pub history : History
-  pub live : List ℕ
-  pub iterators : List (List ℕ × Open)
+-- the answer that the state makes due, if there is one
+abbrev pub due : State → Event → Option Reply
+due m (Commit ops) = commit_due m ops
+due m Snap = snap_due m
+due m (Release number) = if_not_live m number
+due m (OpenAt name at options) = open_due m at
+due m other = None
 
-abbrev pub start : State
-start = record { history = []; live = []; iterators = [] }
+-- What is answered where a call is done, and the state after it. What isn't named stays.
+abbrev pub Done : State → Event → Reply → State → Type 0
+Done m (Commit ops) reply m' = (reply ≡ numbers_of m ops) × (m' ≡ after_commit ops m)
+Done m Snap reply m' = (reply ≡ Number (last m.history)) × (m' ≡ after_snap m)
+Done m (Release number) reply m' = (reply ≡ Released) × Releases m number m'
+Done m (OpenAt name at options) reply m' = (reply ≡ Opened (opened m at options).number) × (m' ≡ after_open m name at options)
+Done m (Moves name move) reply m' = MovesOn m name move reply m'
+Done m (Close name) reply m' = (reply ≡ Closed) × (m' ≡ after_closing m name)
+Done m CloseCore reply m' = (reply ≡ CoreClosed) × (m' ≡ m)
 
--- What is done, with the names that the caller gives
-pub data Event : Type 0 where
-  Commit : (ops : List Op) → Event
-  Snap : Event
-  Release : (number : ℕ) → Event
-  OpenAt : (name : List ℕ) → (at : Option ℕ) → (options : IterOptions) → Event
-  Moves : (name : List ℕ) → (move : Move) → Event
-  Close : (name : List ℕ) → Event
+-- an answer that is due, or that of a call that is done
+abbrev pub Does : State → Event → Reply → State → Type 0
+Does m event reply m' = IsAllowed m event × Unless (due m event) m reply m' (Done m event reply m')
 
-pub data Reply : Type 0 where
-  Committed : (first last : ℕ) → Reply
-  EmptyBatch : Reply
-  Number : (number : ℕ) → Reply
-  Released : Reply
-  Opened : (number : ℕ) → Reply
-  Stands : (at : Open) → Reply
-  Closed : Reply
+-- an answer that is due is given, or the call is done, or it fails
+abbrev pub Answers : State → Event → Reply → State → Type 0
+Answers m event reply m' = Unless (due m event) m reply m' (Done m event reply m' ⊎ Fails m event reply m')
 
--- the second list is the first without one copy of the number
-abbrev pub TakesOne : ℕ → List ℕ → List ℕ → Type 0
-TakesOne n live live' = (before : List ℕ) × (after : List ℕ) × (live ≡ before ++ n ∷ after) × (live' ≡ before ++ after)
-
--- the list without the first thing of a name
-abbrev pub without_named : {A : Type 0} → List ℕ → List (List ℕ × A) → List (List ℕ × A)
-without_named name [] = []
-without_named name (i ∷ is) = if same_bytes i.0 name then is else i ∷ without_named name is
-
-abbrev pub moved_on : Open → Move → Open
-moved_on it move = record { number = it.number; view = after_move it.view move }
-
--- an iterator that is opened now sees the entries up to its number, and no others ever
-abbrev pub opened : State → Option ℕ → IterOptions → Open
-opened m at options =
-    let number = option_map_or (λ n. n) at (last m.history) in
-    record { number = number; view = opened_over (upto number (entries m.history)) options }
-
--- An event, its reply, and the state after it; what isn't named stays. A commit without operations is refused.
-abbrev pub Step : State → Event → Reply → State → Type 0
-Step m (Commit []) reply m' = (reply ≡ EmptyBatch) × (m' ≡ m)
-Step m (Commit (op ∷ ops)) reply m' = (reply ≡ Committed (last m.history + 1) (last m.history + length (op ∷ ops)))
-    × (m' ≡ record m { history = m.history ++ (op ∷ ops) ∷ [] })
-Step m Snap reply m' = (reply ≡ Number (last m.history)) × (m' ≡ record m { live = m.live ++ last m.history ∷ [] })
-Step m (Release number) reply m' = TakesOne number m.live m'.live × (reply ≡ Released) × (m' ≡ record m { live = m'.live })
-Step m (OpenAt name at options) reply m' = (named name m.iterators ≡ None)
-    × IfSome at (Contains m.live)
-    × (reply ≡ Opened (opened m at options).number)
-    × (m' ≡ record m { iterators = m.iterators ++ (name, opened m at options) ∷ [] })
-Step m (Moves name move) reply m' = (it : Open)
-    × (named name m.iterators ≡ Some it)
-    × (reply ≡ Stands (moved_on it move))
-    × (m' ≡ record m { iterators = with_named name (moved_on it move) m.iterators })
-Step m (Close name) reply m' = (it : Open)
-    × (named name m.iterators ≡ Some it)
-    × (reply ≡ Closed)
-    × (m' ≡ record m { iterators = without_named name m.iterators })
+-- an event, its reply, and the state after it
+pub record Step (m : State) (event : Event) (reply : Reply) (m' : State) : Type 0 where
+  pub allowed : IsAllowed m event
+  pub answer : Answers m event reply m'

@@ -6,10 +6,11 @@ use Rattle.rk_script.specs.Naming.{is_called}
 use Rattle.rk_script.specs.Script.{Names, is_accepted}
 use Rattle.rk_script.specs.declared.line.Event.{Event}
 use Rattle.rk_script.specs.declared.line.Event.TheVariants.{Release, Iter}
-use Rattle.rk_program.specs.Standing.{StandsFor, IsFree, IsLive, numbers, opens, names_in}
+use Rattle.rk_program.specs.Standing.{StandsFor, IsLive, numbers, names_in}
 use Rattle.rk_program.specs.Transcript.{SessionState, names_of}
 use Rattle.rk_program.specs.declared.session.Session.{Session}
-use Rattle.rk_program.proofs.LineLemmas.{snapshot_name, snapshot_number, iterator_name, iterator_open}
+use Rattle.rk_program.proofs.LineLemmas.{names_alike}
+use Rattle.rk_program.proofs.StoreLemmas.{snapshot_name, snapshot_number}
 use Rattle.rk_program.proofs.NameLemmas.{same_names}
 use Rattle.rk_program.proofs.Naming.{named-there, named-absent, named_values}
 
@@ -28,39 +29,35 @@ first_names called value [] = refl
 first_names called value (x ∷ xs) = ap (λ ns. called x ∷ ns) (first_names called value xs)
 
 -- the names that a session has in use are those of the state that it stands for
-pub accepted_in : (session : Session) (s : SessionState) (event : Event) → StandsFor session s
+pub accepted_in : {V : Type 0} (session : Session V) (s : SessionState) (event : Event) → StandsFor session s
     → IsTrue (is_accepted (names_of s) event) → IsTrue (is_accepted (names_in session) event)
 accepted_in session s event stands accepted =
     let same : names_of s ≡ names_in session = sym (same_names _ _ _ _ _ _
-    (first_names (λ w. w.name) (λ w. w.batch) session.writers.items ∙ ap (map (λ b. b.0)) stands.batches_are)
-    (first_names iterator_name iterator_open session.iterators.items ∙ ap (map (λ i. i.0)) stands.iterators_are)
-    (first_names snapshot_name snapshot_number session.snapshots.items ∙ ap (map (λ x. x.0)) stands.snapshots_are)) in
+    (first_names (λ w. w.name) (λ w. w.batch) session.writers.items ∙ ap (map (λ b. b.0)) stands.batches)
+    (names_alike session.iterators.items s.state.iterators stands.iterators)
+    (first_names snapshot_name snapshot_number session.snapshots.items ∙ ap (map (λ x. x.0)) stands.snapshots)) in
     let P : Names → Type 0 = λ names. IsTrue (is_accepted names event) in
     subst P same accepted
 
-pub live_snapshot : (session : Session) (name : List ℕ) → is_called name (names_in session).snapshots ≡ true → IsLive name (numbers session.snapshots.items)
+pub live_snapshot : {V : Type 0} (session : Session V) (name : List ℕ) → is_called name (names_in session).snapshots ≡ true → IsLive name (numbers session.snapshots.items)
 live_snapshot session name there = named-there snapshot_name snapshot_number name session.snapshots.items there
 
-pub live_iterator : (session : Session) (name : List ℕ) → is_called name (names_in session).iterators ≡ true → IsLive name (opens session.iterators.items)
-live_iterator session name there = named-there iterator_name iterator_open name session.iterators.items there
-
-pub release_live : (session : Session) (name : List ℕ) → IsTrue (is_accepted (names_in session) (Release name)) → IsLive name (numbers session.snapshots.items)
+pub release_live : {V : Type 0} (session : Session V) (name : List ℕ) → IsTrue (is_accepted (names_in session) (Release name)) → IsLive name (numbers session.snapshots.items)
 release_live session name accepted = live_snapshot session name (all_three _ _ _ accepted).0
 
-pub iter_free : (session : Session) (name : List ℕ) (at : Option (List ℕ)) (lower upper mask : Option (List ℕ))
-    → IsTrue (is_accepted (names_in session) (Iter name at lower upper mask)) → IsFree name (opens session.iterators.items)
-iter_free session name at lower upper mask accepted =
-    named-absent iterator_name iterator_open name session.iterators.items (not_called _ (all_three _ _ _ accepted).1)
+pub iter_free : {V : Type 0} (session : Session V) (name : List ℕ) (at : Option (List ℕ)) (lower upper mask : Option (List ℕ))
+    → IsTrue (is_accepted (names_in session) (Iter name at lower upper mask)) → is_called name (names_in session).iterators ≡ false
+iter_free session name at lower upper mask accepted = not_called _ (all_three _ _ _ accepted).1
 
-pub iter_live : (session : Session) (name : List ℕ) (at : Option (List ℕ)) (lower upper mask : Option (List ℕ))
+pub iter_live : {V : Type 0} (session : Session V) (name : List ℕ) (at : Option (List ℕ)) (lower upper mask : Option (List ℕ))
     → IsTrue (is_accepted (names_in session) (Iter name at lower upper mask)) → IfSome at (λ snapshot. IsLive snapshot (numbers session.snapshots.items))
 iter_live session name None lower upper mask accepted = tt
 iter_live session name (Some at) lower upper mask accepted = live_snapshot session at (all_three _ _ _ accepted).0
 
 -- the iterator that a line moves or closes is live
-pub iterator_live : (session : Session) (iter : List ℕ) (free room : Bool) → IsTrue (is_called iter (names_in session).iterators && free && room)
-    → IsLive iter (opens session.iterators.items)
-iterator_live session iter free room accepted = live_iterator session iter (all_three _ free room accepted).0
+pub iterator_live : {V : Type 0} (session : Session V) (iter : List ℕ) (free room : Bool) → IsTrue (is_called iter (names_in session).iterators && free && room)
+    → is_called iter (names_in session).iterators ≡ true
+iterator_live session iter free room accepted = (all_three _ free room accepted).0
 
 not_there : {A : Type 0} (found : Option A) → IsSome found → found ≡ None → ⊥
 not_there None live is = cc

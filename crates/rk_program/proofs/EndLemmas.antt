@@ -7,7 +7,7 @@ use Rattle.std.specs.String.{string_bytes}
 use Rattle.rk_script.proofs.Texts.{same_bytes_is}
 use Rattle.rk_script.specs.Checks.{checked}
 use Rattle.rk_script.specs.Grammar.{event_of, and_then}
-use Rattle.rk_script.specs.Script.{read_from, BadLine, Names, no_names, names_after, is_accepted, are_live, is_free, has_room, name_checks, accepted_event, with_line, before_lines}
+use Rattle.rk_script.specs.Script.{read_from, BadLine, Names, names_after, is_accepted, are_live, is_free, has_room, name_checks, accepted_event, with_line, before_lines}
 use Rattle.rk_script.specs.Words.{is_skipped, is_printable, words, lines}
 use Rattle.rk_script.specs.declared.line.Event.{Event}
 use Rattle.rk_script.specs.declared.line.Line.{Line as ScriptLine}
@@ -15,7 +15,6 @@ use Rattle.rk_script.specs.declared.line.Why.{Why}
 use Rattle.rk_script.specs.declared.line.Why.TheVariants.{Byte, NoName, Taken, TooMany}
 use Rattle.rk_program.specs.Transcript.{AreAccepted}
 use Rattle.rk_program.specs.Causes.{are_words}
-use Rattle.rk_program.specs.Ends.{GaveLines}
 
 -- Lines that were read are accepted one after the other.
 
@@ -58,9 +57,6 @@ read_from-accepted n names (line ∷ raw) ls h =
       at_line false (Err why) e h skipped taken = cc
       at_line false (Ok event) e h skipped taken =
           at_event event (accepted_from_line names line event e) (read_from (n + 1) (names_after names event) raw) refl h (taken event)
-
-pub GaveLines-accepted : (before now : Option (List ℕ)) (ls : List ScriptLine) → GaveLines before now ls → AreAccepted no_names ls
-GaveLines-accepted before now ls gave = read_from-accepted 1 no_names (lines gave.0) ls gave.2
 
 -- The words.
 

@@ -1,3 +1,4 @@
+mod Answered
 pub mod Accepted
 pub mod BatchLemmas
 pub mod CauseLemmas
@@ -8,6 +9,7 @@ pub mod NameLemmas
 pub mod Naming
 pub mod OneText
 pub mod OutputLemmas
-pub mod SessionLemmas
 pub mod SomeText
+pub mod StoreLemmas
+pub mod Told
 pub mod Transcripts

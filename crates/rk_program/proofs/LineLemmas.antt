@@ -1,212 +1,274 @@
--- Lines on snapshots and iterators: what they do to a session, and to the state that it stands for.
-use Rattle.std.proofs.Common.{◌≡◌, ℕ, ◌≤◌, ◌<◌, List, [], ◌∷◌, ◌++◌, map, length, take, drop, suc, set, get_or, Option, Some, None, arith, ap, sym, ◌∙◌, refl, get_or-set_same}
-use Rattle.std.proofs.lemmas.List.Elements.{All-append, All-cons, All-nil, All-take, All-drop}
-use Rattle.std.specs.List.{remove}
-use Rattle.std.specs.Option.{option_map_or}
-use Rattle.std.specs.Prelude.{IfSome, All, Contains}
+-- Lines on iterators: what they do to a session, and to the state that it stands for.
+use Rattle.std.proofs.Common.{◌≡◌, ℕ, ◌<◌, false, true, List, [], ◌∷◌, ◌++◌, map, length, take, set, zero, suc, remove, get_or, IsPermutation, Option, Some, None, arith, ap, sym, ◌∙◌, refl, subst, inl}
+use Rattle.std.specs.Option.{option_map, option_map_or, option_and_then}
+use Rattle.std.specs.Prelude.{if◌then◌else◌, Bool, Result, Ok, IsSome, codes}
+use Rattle.rk_outside.specs.declared.error.SourceError.{SourceError}
 use Rattle.rk_model.specs.Covers.{upto}
-use Rattle.rk_model.specs.Moves.{Move, opened_over, after_move}
+use Rattle.rk_model.specs.Moves.{Move, opened_over, key_at}
+use Rattle.rk_model.specs.Positions.{report}
+use Rattle.rk_model.specs.declared.cursor.Cursor.{Cursor}
+use Rattle.rk_model.specs.declared.cursor.Cursor.TheVariants.{Fresh, Start, At, End}
+use Rattle.rk_model.specs.declared.op.Entry.{Entry}
 use Rattle.rk_model.specs.Named.{named, with_named}
 use Rattle.rk_model.specs.Operations.{entries, last}
+use Rattle.rk_model.specs.Spans.{same_bytes}
 use Rattle.rk_model.specs.declared.options.IterOptions.{IterOptions}
-use Rattle.rk_machine.specs.Machine.{Open, opened, Number, Released, Opened, Stands, Closed, moved_on, without_named}
-use Rattle.rk_script.specs.declared.line.Event.TheVariants.{Snap, Release, Close}
-use Rattle.rk_program.specs.Replies.{reply_text, stands_text}
-use Rattle.rk_program.specs.Standing.{StandsFor, IsFree, batches, numbers, opens}
-use Rattle.rk_program.specs.Transcript.{SessionState, IsTime, Does, DoesMove, DoesOpening}
+use Rattle.rk_laws.specs.SameCells.{KeyBounds, SeeksKey}
+use Rattle.rk_mem.specs.Memory.{Pinned}
+use Rattle.rk_machine.specs.State.{State, Open}
+use Rattle.rk_machine.specs.Events.{OpenAt, Moves as moves, Close as closes, Opened, Stands, Closed}
+use Rattle.rk_machine.specs.Iterators.{without_named, moved_on, opened}
+use Rattle.rk_machine.specs.Machine.{Step}
+use Rattle.rk_core.specs.Standing.{StandsFor as CoreStandsFor}
+use Rattle.rk_core.specs.Answers.{Pins}
+use Rattle.rk_core.proofs.Steps.{step_goes_on}
+use Rattle.rk_iter.specs.Iterating.{Iterating, Moves}
+use Rattle.rk_iter_laws.specs.Showing.{IsAt, opened_on}
+use Rattle.rk_iter_laws.proofs.Showing.{opens_alike, moves_alike}
+use Rattle.rk_script.specs.Naming.{is_called}
+use Rattle.rk_script.specs.Words.{line_end}
+use Rattle.rk_model.specs.declared.op.Op.{Op}
+use Rattle.rk_script.specs.declared.line.Event.{Event}
+use Rattle.rk_script.specs.declared.line.Event.TheVariants.{Put, Del, RangeSet, RangeUnset, RangeDel, Commit, Snap, Release, Iter, First, Last, Next, Prev, SeekGe, SeekLt, Close, Shape}
+use Rattle.rk_program.specs.Asked.{operation_of}
+use Rattle.rk_program.specs.Replies.{stands_text, report_text, off_text, lent_text, lent_place, place_text, Tells}
+use Rattle.rk_program.specs.Standing.{StandsFor, Did, DidSo, AreAt, batches, numbers}
+use Rattle.rk_program.specs.Transcript.{SessionState, IsTime, Does, DoesOp, DoesMove, DoesOpening}
 use Rattle.rk_program.specs.declared.session.OpenIterator.{OpenIterator}
 use Rattle.rk_program.specs.declared.session.Session.{Session}
-use Rattle.rk_program.specs.declared.session.Snapshot.{Snapshot}
-use Rattle.rk_program.proofs.NameLemmas.{map-snoc}
-use Rattle.rk_program.proofs.Naming.{IsFirst, IsFirst-named, IsFirst-set, IsFirst-remove, named-Contains, named-TakesOne}
-use Rattle.rk_program.proofs.SessionLemmas.{length-entries, upto-take}
-
-abbrev pub snapshot_name : Snapshot → List ℕ
-snapshot_name x = x.name
-
-abbrev pub snapshot_number : Snapshot → ℕ
-snapshot_number x = x.number
+use Rattle.rk_program.proofs.Naming.{IsFirst, or_false, same_bytes-refl}
 
 abbrev pub iterator_name : OpenIterator → List ℕ
 iterator_name i = i.name
 
-abbrev pub iterator_open : OpenIterator → Open
-iterator_open i = record { number = i.number; view = i.plain }
+-- ---- lists of iterators that are where those of the machine are
 
--- Snapshots.
+pub names_alike : (its : List OpenIterator) (os : List (List ℕ × Open)) → AreAt its os → map iterator_name its ≡ map (λ o. o.0) os
+names_alike [] [] at = refl
+names_alike [] (o ∷ os) at = absurd at
+names_alike (i ∷ its) [] at = absurd at
+names_alike (i ∷ its) (o ∷ os) at = ap (λ n. n ∷ map iterator_name its) at.0 ∙ ap (λ ns. o.0 ∷ ns) (names_alike its os at.2)
 
-All-snoc : {X : Type 0} (P : X → Type 0) (xs : List X) (x : X) → All P xs → P x → All P (xs ++ x ∷ [])
-All-snoc P xs x all here = All-append P xs (x ∷ []) all (All-cons P x [] here (All-nil P))
+-- one of the machine's has no name that none of these has
+pub none_named : (its : List OpenIterator) (os : List (List ℕ × Open)) (name : List ℕ) → AreAt its os → is_called name (map iterator_name its) ≡ false → named name os ≡ None
+none_named [] [] name at none = refl
+none_named [] (o ∷ os) name at none = absurd at
+none_named (i ∷ its) [] name at none = absurd at
+none_named (i ∷ its) (o ∷ os) name at none =
+    let both = or_false (same_bytes i.name name) (is_called name (map iterator_name its)) none in
+    rw (ap (λ n. same_bytes n name) (sym at.0) ∙ both.0) (none_named its os name at.2 both.1)
 
-All-remove : {X : Type 0} (P : X → Type 0) (xs : List X) (i : ℕ) → All P xs → All P (remove xs i)
-All-remove P xs i all = All-append P (take i xs) (drop (suc i) xs) (All-take P i xs all) (All-drop P (suc i) xs all)
+-- one of the machine's, and where it is
+pub record Found (os : List (List ℕ × Open)) (name : List ℕ) (it : Iterating) : Type 0 where
+  pub open_it : Open
+  pub found : named name os ≡ Some open_it
+  pub at : IsAt it open_it
 
-pub snap_does : (old new : Session) (name : List ℕ) (x : Snapshot) (text : List ℕ) (s : SessionState) → StandsFor old s
-    → new.entries.items ≡ old.entries.items → new.writers.items ≡ old.writers.items → new.iterators.items ≡ old.iterators.items
-    → new.snapshots.items ≡ old.snapshots.items ++ x ∷ [] → x.name ≡ name → x.number ≡ length old.entries.items
-    → text ≡ reply_text name (Number x.number)
-    → (t : SessionState) × Does s (Snap name) text t × StandsFor new t
-snap_does old new name x text s stands same_entries same_writers same_iterators more called number said =
-    let n = last s.state.history in
-    let is : x.number ≡ n = number ∙ (ap length stands.entries_are ∙ length-entries s.state.history) in (
-      record { state = record s.state { live = s.state.live ++ n ∷ [] }; batches = s.batches; snapshots = s.snapshots ++ (name, n) ∷ [] },
-      (Number n, (refl, refl), said ∙ ap (λ m. reply_text name (Number m)) is, refl, refl),
-      record {
-        entries_are = same_entries ∙ stands.entries_are;
-        batches_are = ap batches same_writers ∙ stands.batches_are;
-        snapshots_are = ap numbers more ∙ (map-snoc (λ y. (snapshot_name y, snapshot_number y)) old.snapshots.items x
-            ∙ (ap (λ ps. ps ++ (x.name, x.number) ∷ []) stands.snapshots_are
-            ∙ (ap (λ m. s.snapshots ++ (m, x.number) ∷ []) called ∙ ap (λ m. s.snapshots ++ (name, m) ∷ []) is)));
-        live_are = ap (λ l. l ++ n ∷ []) stands.live_are ∙ sym (map-snoc (λ p. p.1) s.snapshots (name, n));
-        iterators_are = ap opens same_iterators ∙ stands.iterators_are;
-        within = rw (same_entries, more) (All-snoc (λ y. y.number ≤ length old.entries.items) old.snapshots.items x stands.within (omega arith));
-      },
-    )
+-- the first of a name is where the machine's first of that name is
+pub found_at : (its : List OpenIterator) (os : List (List ℕ × Open)) (name : List ℕ) (i : ℕ) (d : OpenIterator) → AreAt its os → i < length its
+    → is_called name (map iterator_name (take i its)) ≡ false → (get_or its i d).name ≡ name → Found os name (get_or its i d).iter
+found_at [] os name i d at within none here = absurd (omega arith)
+found_at (x ∷ its) [] name i d at within none here = absurd at
+found_at (x ∷ its) (o ∷ os) name zero d at within none here =
+    record { open_it = o.1; found = rw (same_bytes-refl o.0 name (sym at.0 ∙ here)) refl; at = at.1 }
+found_at (x ∷ its) (o ∷ os) name (suc i) d at within none here =
+    let both = or_false (same_bytes x.name name) (is_called name (map iterator_name (take i its))) none in
+    let later = found_at its os name i d at.2 (omega arith) both.1 here in
+    record { open_it = later.open_it; found = rw (ap (λ n. same_bytes n name) (sym at.0) ∙ both.0) later.found; at = later.at }
 
-pub release_does : (old new : Session) (name : List ℕ) (i : ℕ) (d : Snapshot) (text : List ℕ) (s : SessionState) → StandsFor old s
-    → IsFirst snapshot_name old.snapshots.items name i
-    → new.entries.items ≡ old.entries.items → new.writers.items ≡ old.writers.items → new.iterators.items ≡ old.iterators.items
-    → new.snapshots.items ≡ remove old.snapshots.items i
-    → text ≡ reply_text name Released
-    → (t : SessionState) × Does s (Release name) text t × StandsFor new t
-release_does old new name i d text s stands first same_entries same_writers same_iterators less said =
-    let number = (get_or old.snapshots.items i d).number in
-    let found : named name s.snapshots ≡ Some number =
-    ap (named name) (sym stands.snapshots_are) ∙ IsFirst-named snapshot_name snapshot_number old.snapshots.items name i d first in
-    let rest = without_named name s.snapshots in
-    let taken = rw (← stands.live_are) at (named-TakesOne name number s.snapshots found) in (
-      record { state = record s.state { live = map (λ p. p.1) rest }; batches = s.batches; snapshots = rest },
-      (number, found, (Released, (taken, refl, refl), said, refl, refl)),
-      record {
-        entries_are = same_entries ∙ stands.entries_are;
-        batches_are = ap batches same_writers ∙ stands.batches_are;
-        snapshots_are = ap numbers less ∙ (IsFirst-remove snapshot_name snapshot_number old.snapshots.items name i d first
-            ∙ ap (without_named name) stands.snapshots_are);
-        live_are = refl;
-        iterators_are = ap opens same_iterators ∙ stands.iterators_are;
-        within = rw (same_entries, less) (All-remove (λ y. y.number ≤ length old.entries.items) old.snapshots.items i stands.within);
-      },
-    )
+-- another one is put in its place
+pub set_at : (its : List OpenIterator) (os : List (List ℕ × Open)) (name : List ℕ) (i : ℕ) (d y : OpenIterator) (o' : Open) → AreAt its os → i < length its
+    → is_called name (map iterator_name (take i its)) ≡ false → (get_or its i d).name ≡ name → y.name ≡ name → IsAt y.iter o' → AreAt (set its i y) (with_named name o' os)
+set_at [] os name i d y o' at within none here called new = absurd (omega arith)
+set_at (x ∷ its) [] name i d y o' at within none here called new = absurd at
+set_at (x ∷ its) (o ∷ os) name zero d y o' at within none here called new =
+    rw (same_bytes-refl o.0 name (sym at.0 ∙ here)) (called, new, at.2)
+set_at (x ∷ its) (o ∷ os) name (suc i) d y o' at within none here called new =
+    let both = or_false (same_bytes x.name name) (is_called name (map iterator_name (take i its))) none in
+    rw (ap (λ n. same_bytes n name) (sym at.0) ∙ both.0) (at.0, at.1, set_at its os name i d y o' at.2 (omega arith) both.1 here called new)
 
--- Openings.
+-- and without it
+pub removed_at : (its : List OpenIterator) (os : List (List ℕ × Open)) (name : List ℕ) (i : ℕ) (d : OpenIterator) → AreAt its os → i < length its
+    → is_called name (map iterator_name (take i its)) ≡ false → (get_or its i d).name ≡ name → AreAt (remove its i) (without_named name os)
+removed_at [] os name i d at within none here = absurd (omega arith)
+removed_at (x ∷ its) [] name i d at within none here = absurd at
+removed_at (x ∷ its) (o ∷ os) name zero d at within none here = rw (same_bytes-refl o.0 name (sym at.0 ∙ here)) at.2
+removed_at (x ∷ its) (o ∷ os) name (suc i) d at within none here =
+    let both = or_false (same_bytes x.name name) (is_called name (map iterator_name (take i its))) none in
+    rw (ap (λ n. same_bytes n name) (sym at.0) ∙ both.0) (at.0, at.1, removed_at its os name i d at.2 (omega arith) both.1 here)
 
-time_there : (session : Session) (s : SessionState) (at : Option (List ℕ)) (number : ℕ) → StandsFor session s
-    → (at ≡ None → number ≡ length session.entries.items)
-    → IfSome at (λ name. named name (numbers session.snapshots.items) ≡ Some number)
-    → (time : Option ℕ) × IsTime s at time × IfSome time (Contains s.state.live) × (option_map_or (λ n. n) time (last s.state.history) ≡ number)
-time_there session s None number stands now snapshot =
-    (None, refl, tt, sym (now refl ∙ (ap length stands.entries_are ∙ length-entries s.state.history)))
-time_there session s (Some name) number stands now snapshot =
-    let found : named name s.snapshots ≡ Some number = ap (named name) (sym stands.snapshots_are) ∙ snapshot in
-    let there : Contains s.state.live number = rw stands.live_are (named-Contains name number s.snapshots found) in
-    (Some number, (found, refl), there, refl)
+-- one more at the end
+pub more_at : (its : List OpenIterator) (os : List (List ℕ × Open)) (y : OpenIterator) (name : List ℕ) (o' : Open) → AreAt its os → y.name ≡ name → IsAt y.iter o'
+    → AreAt (its ++ y ∷ []) (os ++ (name, o') ∷ [])
+more_at [] [] y name o' at called new = (called, new, tt)
+more_at [] (o ∷ os) y name o' at called new = absurd at
+more_at (x ∷ its) [] y name o' at called new = absurd at
+more_at (x ∷ its) (o ∷ os) y name o' at called new = (at.0, at.1, more_at its os y name o' at.2 called new)
 
-one_more_open : (its : List OpenIterator) (are : List (List ℕ × Open)) (it : OpenIterator) (name : List ℕ) (open_it : Open)
-    → opens its ≡ are → it.name ≡ name → iterator_open it ≡ open_it → opens (its ++ it ∷ []) ≡ are ++ (name, open_it) ∷ []
-one_more_open its are it name open_it same called is =
-    map-snoc (λ i. (iterator_name i, iterator_open i)) its it
-    ∙ (ap (λ xs. xs ++ (it.name, iterator_open it) ∷ []) same
-    ∙ (ap (λ n. are ++ (n, iterator_open it) ∷ []) called ∙ ap (λ o. are ++ (name, o) ∷ []) is))
+-- ---- a state with other iterators
 
-pub open_does : (old new : Session) (name : List ℕ) (at : Option (List ℕ)) (options : IterOptions) (it : OpenIterator) (text : List ℕ) (s : SessionState)
-    → StandsFor old s → IsFree name (opens old.iterators.items)
-    → (at ≡ None → it.number ≡ length old.entries.items)
-    → IfSome at (λ snapshot. named snapshot (numbers old.snapshots.items) ≡ Some it.number)
-    → new.entries.items ≡ old.entries.items → new.writers.items ≡ old.writers.items → new.snapshots.items ≡ old.snapshots.items
-    → new.iterators.items ≡ old.iterators.items ++ it ∷ []
-    → it.name ≡ name → it.plain ≡ opened_over (take it.number old.entries.items) options
-    → text ≡ reply_text name (Opened it.number)
-    → (t : SessionState) × DoesOpening s name at options text t × StandsFor new t
-open_does old new name at options it text s stands free now snapshot same_entries same_writers same_snapshots more called plain said =
+abbrev with_iterators : SessionState → List (List ℕ × Open) → SessionState
+with_iterators s os = record s { state = record s.state { iterators = os } }
+
+core_with : {V : Type 0} (session : Session V) (m : State) (os : List (List ℕ × Open)) → CoreStandsFor session.core m → CoreStandsFor session.core (record m { iterators = os })
+core_with session m os stands = record {
+  commits = stands.commits;
+  keyed = stands.keyed;
+  agrees = stands.agrees;
+  active = stands.active;
+  frozen = stands.frozen;
+  last = stands.last;
+  live = stands.live;
+}
+
+-- a session whose iterators alone change
+stands_with : {V : Type 0} (old new : Session V) (s : SessionState) (os : List (List ℕ × Open)) → StandsFor old s → new.core ≡ old.core
+    → new.writers.items ≡ old.writers.items → new.snapshots.items ≡ old.snapshots.items → AreAt new.iterators.items os → StandsFor new (with_iterators s os)
+stands_with old new s os stands same_core same_writers same_snapshots at = record {
+  core = subst (λ c. CoreStandsFor c (record s.state { iterators = os })) (sym same_core) (core_with old s.state os stands.core);
+  batches = ap batches same_writers ∙ stands.batches;
+  snapshots = ap numbers same_snapshots ∙ stands.snapshots;
+  live = stands.live;
+  iterators = at;
+}
+
+-- ---- openings
+
+pub open_does : {V : Type 0} (old new : Session V) (name : List ℕ) (at : Option (List ℕ)) (options : IterOptions) (time : Option ℕ) (pins : Pinned) (it : OpenIterator) (before now : List ℕ) (s : SessionState)
+    → StandsFor old s → is_called name (map iterator_name old.iterators.items) ≡ false → IsTime s at time
+    → ((m : State) → CoreStandsFor old.core m → Pins m time (Ok pins))
+    → KeyBounds options → new.core ≡ old.core
+    → new.writers.items ≡ old.writers.items → new.snapshots.items ≡ old.snapshots.items → new.iterators.items ≡ old.iterators.items ++ it ∷ []
+    → it.name ≡ name → it.iter ≡ opened_on pins options → Tells before now name (Opened pins.number)
+    → DidSo (DoesOpening s name at options) before now new
+open_does old new name at options time pins it before now s stands free is_time pinned bounds same_core same_writers same_snapshots more called is tells =
     let h = s.state.history in
-    let time = time_there old s at it.number stands now snapshot in
-    let none : named name s.state.iterators ≡ None = ap (named name) (sym stands.iterators_are) ∙ free in
-    let seen : it.plain ≡ opened_over (upto it.number (entries h)) options =
-    plain ∙ (ap (λ es. opened_over (take it.number es) options) stands.entries_are ∙ ap (λ es. opened_over es options) (sym (upto-take it.number h))) in
-    let is : iterator_open it ≡ opened s.state time.0 options =
-    ap (λ v. record { number = it.number; view = v }) seen
-    ∙ ap (λ n. record { number = n; view = opened_over (upto n (entries h)) options }) (sym time.3) in (
-      record { state = record s.state { iterators = s.state.iterators ++ (name, opened s.state time.0 options) ∷ [] }; batches = s.batches; snapshots = s.snapshots },
+    let (not_due, number, shows) = pinned s.state stands.core in
+    let o = opened s.state time options in
+    let here : IsAt (opened_on pins options) (record { number = pins.number; view = opened_over (upto pins.number (entries h)) options }) =
+    opens_alike pins (upto pins.number (entries h)) options shows.differ (shows.cells options bounds) in
+    let there : IsAt it.iter o =
+    subst (λ i. IsAt i o) (sym is) (subst (λ n. IsAt (opened_on pins options) (record { number = n; view = opened_over (upto n (entries h)) options })) number here) in
+    let none : named name s.state.iterators ≡ None = none_named old.iterators.items s.state.iterators name stands.iterators free in (
+      tells.0,
+      with_iterators s (s.state.iterators ++ (name, o) ∷ []),
       (
-        time.0,
-        time.1,
+        time,
+        is_time,
         (
-          Opened (opened s.state time.0 options).number,
-          (none, time.2, refl, refl),
-          said ∙ ap (λ n. reply_text name (Opened n)) (sym time.3),
+          Opened pins.number,
+          step_goes_on s.state (OpenAt name time options) (Opened pins.number) _ none not_due (inl (ap Opened number, refl)),
+          tells.1,
           refl,
           refl,
         ),
       ),
-      record {
-        entries_are = same_entries ∙ stands.entries_are;
-        batches_are = ap batches same_writers ∙ stands.batches_are;
-        snapshots_are = ap numbers same_snapshots ∙ stands.snapshots_are;
-        live_are = stands.live_are;
-        iterators_are = ap opens more ∙ one_more_open old.iterators.items s.state.iterators it name (opened s.state time.0 options) stands.iterators_are called is;
-        within = rw (same_entries, same_snapshots) stands.within;
-      },
+      stands_with old new s (s.state.iterators ++ (name, o) ∷ []) stands same_core same_writers same_snapshots
+          (subst (λ is. AreAt is (s.state.iterators ++ (name, o) ∷ [])) (sym more) (more_at old.iterators.items s.state.iterators it name o stands.iterators called there)),
+      tells.2,
     )
 
--- Moves and closings.
+-- ---- moves
 
-pub move_does : (old new : Session) (name : List ℕ) (i : ℕ) (it y : OpenIterator) (move : Move) (text : List ℕ) (s : SessionState)
+place_alike : (it : Iterating) (es : List Entry) (o : IterOptions) (c : Cursor) → it.cursor ≡ c
+    → it.value ≡ option_and_then (λ r. r.value) (option_map (report es o) (key_at c))
+    → it.span ≡ option_and_then (λ r. r.span) (option_map (report es o) (key_at c))
+    → lent_place it ≡ option_map_or report_text (option_map (report es o) (key_at c)) (off_text c)
+place_alike it es o c cursor value span =
+    ap (λ k. option_map_or (λ key. report_text (record { key = key; value = it.value; span = it.span })) (key_at k) (off_text k)) cursor ∙ there c value span where
+      there : (k : Cursor) → it.value ≡ option_and_then (λ r. r.value) (option_map (report es o) (key_at k)) → it.span ≡ option_and_then (λ r. r.span) (option_map (report es o) (key_at k))
+          → option_map_or (λ key. report_text (record { key = key; value = it.value; span = it.span })) (key_at k) (off_text k)
+          ≡ option_map_or report_text (option_map (report es o) (key_at k)) (off_text k)
+      there Fresh p q = refl
+      there Start p q = refl
+      there (At x) p q = λ j. report_text (record { key = x; value = p j; span = q j })
+      there End p q = refl
+
+-- what is lent is what is reported
+lent_is : (name : List ℕ) (it : Iterating) (at : Open) → IsAt it at → lent_text name it ≡ stands_text name at.view
+lent_is name it at a =
+    ap (λ p. name ++ p ++ (if it.changed then codes " changed" else []) ++ line_end ∷ []) (place_alike it at.view.sees at.view.options at.view.cursor a.cursor a.value a.span)
+    ∙ ap (λ b. name ++ place_text at.view ++ (if b then codes " changed" else []) ++ line_end ∷ []) a.changed
+
+pub is_there : {A : Type 0} (found : Option A) (a : A) → found ≡ Some a → IsSome found
+is_there None a is = cc
+is_there (Some b) a is = refl
+
+pub move_does : {V : Type 0} (old new : Session V) (name : List ℕ) (i : ℕ) (it y : OpenIterator) (move : Move) (there : Bool) (answer : Result Bool SourceError) (called before now : List ℕ) (s : SessionState)
     → StandsFor old s → IsFirst iterator_name old.iterators.items name i → it ≡ get_or old.iterators.items i it
-    → new.entries.items ≡ old.entries.items → new.writers.items ≡ old.writers.items → new.snapshots.items ≡ old.snapshots.items
-    → new.iterators.items ≡ set old.iterators.items i y
-    → y.name ≡ it.name → y.number ≡ it.number → y.plain ≡ after_move it.plain move
-    → text ≡ stands_text name y.plain
-    → (t : SessionState) × DoesMove s name move text t × StandsFor new t
-move_does old new name i it y move text s stands first is same_entries same_writers same_snapshots moved same_name same_number after said =
-    let found : named name s.state.iterators ≡ Some (iterator_open it) =
-    ap (named name) (sym stands.iterators_are)
-    ∙ (IsFirst-named iterator_name iterator_open old.iterators.items name i it first ∙ ap (λ x. Some (iterator_open x)) (sym is)) in
-    let called : y.name ≡ name = same_name ∙ (ap iterator_name is ∙ first.here it) in (
-      record {
-        state = record s.state { iterators = with_named name (moved_on (iterator_open it) move) s.state.iterators };
-        batches = s.batches;
-        snapshots = s.snapshots;
-      },
-      (Stands (moved_on (iterator_open it) move), (iterator_open it, found, refl, refl), said ∙ ap (stands_text name) after, refl, refl),
-      record {
-        entries_are = same_entries ∙ stands.entries_are;
-        batches_are = ap batches same_writers ∙ stands.batches_are;
-        snapshots_are = ap numbers same_snapshots ∙ stands.snapshots_are;
-        live_are = stands.live_are;
-        iterators_are = ap opens moved ∙ (IsFirst-set iterator_name iterator_open old.iterators.items name i y first called
-            ∙ (ap (λ is. with_named name (iterator_open y) is) stands.iterators_are
-            ∙ (ap (λ n. with_named name (record { number = n; view = y.plain }) s.state.iterators) same_number
-            ∙ ap (λ v. with_named name (record { number = it.number; view = v }) s.state.iterators) after)));
-        within = rw (same_entries, same_snapshots) stands.within;
-      },
+    → new.core ≡ old.core → new.writers.items ≡ old.writers.items → new.snapshots.items ≡ old.snapshots.items → new.iterators.items ≡ set old.iterators.items i y
+    → y.name ≡ it.name → answer ≡ Ok there → Moves it.iter y.iter move answer → SeeksKey move
+    → called ≡ name → now ≡ before ++ lent_text called y.iter
+    → DidSo (DoesMove s name move) before now new
+move_does old new name i it y move there answer called before now s stands first is same_core same_writers same_snapshots put same_name well by_moving seeks under said =
+    let here = found_at old.iterators.items s.state.iterators name i it stands.iterators first.within first.first (first.here it) in
+    let at : IsAt it.iter here.open_it = subst (λ k. IsAt k.iter here.open_it) (sym is) here.at in
+    let o = moved_on here.open_it move in
+    let after : IsAt y.iter o = moves_alike it.iter y.iter here.open_it move answer there well at seeks by_moving in
+    let y_called : y.name ≡ name = same_name ∙ (ap iterator_name is ∙ first.here it) in (
+      stands_text name o.view,
+      with_iterators s (with_named name o s.state.iterators),
+      (
+        Stands o,
+        record { allowed = is_there (named name s.state.iterators) here.open_it here.found; answer = inl (here.open_it, here.found, refl, refl) },
+        refl,
+        refl,
+        refl,
+      ),
+      stands_with old new s (with_named name o s.state.iterators) stands same_core same_writers same_snapshots
+          (subst (λ is. AreAt is (with_named name o s.state.iterators)) (sym put)
+          (set_at old.iterators.items s.state.iterators name i it y o stands.iterators first.within first.first (first.here it) y_called after)),
+      said ∙ (ap (λ n. before ++ lent_text n y.iter) under ∙ ap (λ t. before ++ t) (lent_is name y.iter o after)),
     )
 
--- what is printed of an iterator that was put in its place
-pub said_stands : (name called : List ℕ) (its : List OpenIterator) (i : ℕ) (y read : OpenIterator) (text : List ℕ)
-    → text ≡ stands_text called read.plain → called ≡ name → read ≡ get_or (set its i y) i read → i < length its → text ≡ stands_text name y.plain
-said_stands name called its i y read text said same is within =
-    let there : read ≡ y = is ∙ get_or-set_same its i y read within in
-    said ∙ (ap (λ n. stands_text n read.plain) same ∙ ap (λ it. stands_text name it.plain) there)
+-- ---- closings
 
-pub close_does : (old new : Session) (name : List ℕ) (i : ℕ) (d : OpenIterator) (text : List ℕ) (s : SessionState) → StandsFor old s
-    → IsFirst iterator_name old.iterators.items name i
-    → new.entries.items ≡ old.entries.items → new.writers.items ≡ old.writers.items → new.snapshots.items ≡ old.snapshots.items
-    → new.iterators.items ≡ remove old.iterators.items i
-    → text ≡ reply_text name Closed
-    → (t : SessionState) × Does s (Close name) text t × StandsFor new t
-close_does old new name i d text s stands first same_entries same_writers same_snapshots less said =
-    let it = get_or old.iterators.items i d in
-    let found : named name s.state.iterators ≡ Some (iterator_open it) =
-    ap (named name) (sym stands.iterators_are) ∙ IsFirst-named iterator_name iterator_open old.iterators.items name i d first in (
-      record { state = record s.state { iterators = without_named name s.state.iterators }; batches = s.batches; snapshots = s.snapshots },
-      (Closed, (iterator_open it, found, refl, refl), said, refl, refl),
-      record {
-        entries_are = same_entries ∙ stands.entries_are;
-        batches_are = ap batches same_writers ∙ stands.batches_are;
-        snapshots_are = ap numbers same_snapshots ∙ stands.snapshots_are;
-        live_are = stands.live_are;
-        iterators_are = ap opens less ∙ (IsFirst-remove iterator_name iterator_open old.iterators.items name i d first
-            ∙ ap (without_named name) stands.iterators_are);
-        within = rw (same_entries, same_snapshots) stands.within;
-      },
+pub close_does : {V : Type 0} (old new : Session V) (name : List ℕ) (i : ℕ) (d : OpenIterator) (before now : List ℕ) (s : SessionState)
+    → StandsFor old s → IsFirst iterator_name old.iterators.items name i
+    → new.core ≡ old.core → new.writers.items ≡ old.writers.items → new.snapshots.items ≡ old.snapshots.items → new.iterators.items ≡ remove old.iterators.items i
+    → Tells before now name Closed
+    → DidSo (Does s (Close name)) before now new
+close_does old new name i d before now s stands first same_core same_writers same_snapshots less tells =
+    let here = found_at old.iterators.items s.state.iterators name i d stands.iterators first.within first.first (first.here d) in (
+      tells.0,
+      with_iterators s (without_named name s.state.iterators),
+      (
+        Closed,
+        record { allowed = is_there (named name s.state.iterators) here.open_it here.found; answer = inl (refl, refl) },
+        tells.1,
+        refl,
+        refl,
+      ),
+      stands_with old new s (without_named name s.state.iterators) stands same_core same_writers same_snapshots
+          (subst (λ is. AreAt is (without_named name s.state.iterators)) (sym less)
+          (removed_at old.iterators.items s.state.iterators name i d stands.iterators first.within first.first (first.here d))),
+      tells.2,
     )
+
+-- ---- lines on batches
+
+-- an operation that a line asks for was done
+pub operation_did : {V : Type 0} (s : SessionState) (event : Event) (writer : List ℕ) (o : Op) (before now : List ℕ) (session : Session V)
+    → operation_of event ≡ Some (writer, o) → DidSo (DoesOp s writer o) before now session → Did s event before now session
+operation_did s event writer o before now session is did = of event is where
+  for : (x y : List ℕ × Op) → Some x ≡ Some y → DidSo (DoesOp s y.0 y.1) before now session → DidSo (DoesOp s x.0 x.1) before now session
+  for x y same done = let one : x ≡ y = cc in subst (λ z. DidSo (DoesOp s z.0 z.1) before now session) (sym one) done
+
+  of : (e : Event) → operation_of e ≡ Some (writer, o) → Did s e before now session
+  of (Put w k v) same = for _ _ same did
+  of (Del w k) same = for _ _ same did
+  of (RangeSet w st en x v) same = for _ _ same did
+  of (RangeUnset w st en x) same = for _ _ same did
+  of (RangeDel w st en) same = for _ _ same did
+  of (Commit w) same = cc
+  of (Snap name) same = cc
+  of (Release name) same = cc
+  of (Iter name at lower upper mask) same = cc
+  of (First iter) same = cc
+  of (Last iter) same = cc
+  of (Next iter) same = cc
+  of (Prev iter) same = cc
+  of (SeekGe iter key) same = cc
+  of (SeekLt iter key) same = cc
+  of (Close iter) same = cc
+  of Shape same = cc

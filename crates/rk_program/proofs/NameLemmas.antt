@@ -6,12 +6,14 @@ use Rattle.rk_model.specs.Moves as move
 use Rattle.rk_model.specs.Named.{named, with_named}
 use Rattle.rk_model.specs.Spans.{same_bytes}
 use Rattle.rk_model.specs.declared.op.Op.{Op}
-use Rattle.rk_machine.specs.Machine.{Moves, without_named, Reply, Commit as commits, Step}
+use Rattle.rk_machine.specs.Events.{OpenAt, Moves, Snap as snaps, Release as releases, Close as closes}
+use Rattle.rk_machine.specs.Iterators.{without_named}
 use Rattle.rk_script.specs.Naming.{is_called, with_name, without_name}
 use Rattle.rk_script.specs.Script.{Names, names_after, with_writer}
 use Rattle.rk_script.specs.declared.line.Event.{Event}
-use Rattle.rk_script.specs.declared.line.Event.TheVariants.{Put, Del, RangeSet, RangeUnset, RangeDel, Commit, Snap, Release, Iter, First, Last, Next, Prev, SeekGe, SeekLt, Close}
+use Rattle.rk_script.specs.declared.line.Event.TheVariants.{Put, Del, RangeSet, RangeUnset, RangeDel, Commit, Snap, Release, Iter, First, Last, Next, Prev, SeekGe, SeekLt, Close, Shape}
 use Rattle.rk_program.proofs.Naming.{same_bytes-equal}
+use Rattle.rk_program.proofs.Told.{done_if_told, commit_iterators}
 use Rattle.rk_program.specs.Transcript.{SessionState, with_batch, batch_of, Does, DoesOp, DoesEvent, DoesCommit, names_of}
 
 pub map-snoc : {A B : Type 0} (f : A → B) (xs : List A) (x : A) → map f (xs ++ x ∷ []) ≡ map f xs ++ f x ∷ []
@@ -70,18 +72,16 @@ names-DoesCommit : (s : SessionState) (w : List ℕ) (text : List ℕ) (e : Sess
 names-DoesCommit s w text e d =
     same_names _ _ _ _ _ _
     (ap (map (λ b. b.0)) d.3 ∙ names-with_named w _ s.batches)
-    (ap (map (λ i. i.0)) (same_iterators (batch_of w s) d.0 d.1))
-    (ap (map (λ x. x.0)) d.4) where
-      same_iterators : (ops : List Op) (reply : Reply) → Step s.state (commits ops) reply e.state → e.state.iterators ≡ s.state.iterators
-      same_iterators [] reply step = ap (λ m. m.iterators) step.1
-      same_iterators (op ∷ ops) reply step = ap (λ m. m.iterators) step.1
+    (ap (map (λ i. i.0)) (commit_iterators s.state (batch_of w s) d.0 e.state d.1))
+    (ap (map (λ x. x.0)) d.4)
 
 names-moves : (s : SessionState) (iter : List ℕ) (move : Move) (text : List ℕ) (e : SessionState)
     → DoesEvent s iter (Moves iter move) s.batches s.snapshots text e → names_of e ≡ names_of s
 names-moves s iter move text e d =
+    let done = done_if_told s.state (Moves iter move) d.0 e.state iter text tt d.1 d.2 in
     same_names _ _ _ _ _ _
     (ap (map (λ b. b.0)) d.3)
-    (ap (λ m. map (λ i. i.0) m.iterators) d.1.3 ∙ names-moved iter d.1.0 _ s.state.iterators d.1.1)
+    (ap (λ m. map (λ i. i.0) m.iterators) done.3 ∙ names-moved iter done.0 _ s.state.iterators done.1)
     (ap (map (λ x. x.0)) d.4)
 
 pub names_of-Does : (s : SessionState) (event : Event) (text : List ℕ) (e : SessionState) → Does s event text e → names_of e ≡ names_after (names_of s) event
@@ -92,19 +92,22 @@ names_of-Does s (RangeUnset w st en x) text e d = names-DoesOp s w _ text e d
 names_of-Does s (RangeDel w st en) text e d = names-DoesOp s w _ text e d
 names_of-Does s (Commit w) text e d = names-DoesCommit s w text e d
 names_of-Does s (Snap name) text e d =
+    let done = done_if_told s.state snaps d.0 e.state name text tt d.1 d.2 in
     same_names _ _ _ _ _ _
     (ap (map (λ b. b.0)) d.3)
-    (ap (λ m. map (λ i. i.0) m.iterators) d.1.1)
+    (ap (λ m. map (λ i. i.0) m.iterators) done.1)
     (ap (map (λ x. x.0)) d.4 ∙ map-snoc (λ x. x.0) s.snapshots _)
 names_of-Does s (Release name) text e d =
+    let done = done_if_told s.state (releases d.0) d.2.0 e.state name text tt d.2.1 d.2.2 in
     same_names _ _ _ _ _ _
     (ap (map (λ b. b.0)) d.2.3)
-    (ap (λ m. map (λ i. i.0) m.iterators) d.2.1.2)
+    (ap (λ m. map (λ i. i.0) m.iterators) done.1.1)
     (ap (map (λ x. x.0)) d.2.4 ∙ names-without_named name s.snapshots)
 names_of-Does s (Iter name at lower upper mask) text e d =
+    let done = done_if_told s.state (OpenAt name d.0 (record { lower = lower; upper = upper; mask = mask })) d.2.0 e.state name text tt d.2.1 d.2.2 in
     same_names _ _ _ _ _ _
     (ap (map (λ b. b.0)) d.2.3)
-    (ap (λ m. map (λ i. i.0) m.iterators) d.2.1.3 ∙ map-snoc (λ i. i.0) s.state.iterators _)
+    (ap (λ m. map (λ i. i.0) m.iterators) done.1 ∙ map-snoc (λ i. i.0) s.state.iterators _)
     (ap (map (λ x. x.0)) d.2.4)
 names_of-Does s (First iter) text e d = names-moves s iter move.First text e d
 names_of-Does s (Last iter) text e d = names-moves s iter move.Last text e d
@@ -113,7 +116,9 @@ names_of-Does s (Prev iter) text e d = names-moves s iter move.Prev text e d
 names_of-Does s (SeekGe iter key) text e d = names-moves s iter (move.SeekGe key) text e d
 names_of-Does s (SeekLt iter key) text e d = names-moves s iter (move.SeekLt key) text e d
 names_of-Does s (Close iter) text e d =
+    let done = done_if_told s.state (closes iter) d.0 e.state iter text tt d.1 d.2 in
     same_names _ _ _ _ _ _
     (ap (map (λ b. b.0)) d.3)
-    (ap (λ m. map (λ i. i.0) m.iterators) d.1.3 ∙ names-without_named iter s.state.iterators)
+    (ap (λ m. map (λ i. i.0) m.iterators) done.1 ∙ names-without_named iter s.state.iterators)
     (ap (map (λ x. x.0)) d.4)
+names_of-Does s Shape text e d = ap names_of d.1

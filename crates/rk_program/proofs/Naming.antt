@@ -6,7 +6,8 @@ use Rattle.rk_model.specs.Named.{named, with_named}
 use Rattle.rk_model.specs.Spans.{same_bytes}
 use Rattle.rk_script.proofs.Texts.{same_bytes-Decides}
 use Rattle.rk_script.specs.Naming.{is_called}
-use Rattle.rk_machine.specs.Machine.{TakesOne, without_named}
+use Rattle.rk_machine.specs.Snapshots.{TakesOne}
+use Rattle.rk_machine.specs.Iterators.{without_named}
 
 -- what is kept under the names of things, as a list of names and values
 abbrev pub named_values : {T A : Type 0} → (T → List ℕ) → (T → A) → List T → List (List ℕ × A)

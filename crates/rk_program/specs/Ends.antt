@@ -46,12 +46,7 @@ IsNoFile left_before left_now count_before count_now (cause.Length limit) =
     (limit ≡ MOST_FILE_BYTES) × GaveTooMany left_before left_now × (count_now ≡ count_before)
 IsNoFile left_before left_now count_before count_now refusal = IsSourceRefusal count_before count_now refusal
 
--- what each end of a run tells
-abbrev pub IsEnd : (left_before left_now written_before written_now : Option (List ℕ)) → (source_before source_now sink_before sink_now : ℕ) → Cause → Type 0
-IsEnd lb ln wb wn sb sn kb kn cause.Done = DidAll lb ln wb wn
-IsEnd lb ln wb wn sb sn kb kn cause.Words = ⊤
-IsEnd lb ln wb wn sb sn kb kn (cause.Line line why) = GaveBadLine lb ln line why
-IsEnd lb ln wb wn sb sn kb kn (cause.Length limit) = (limit ≡ MOST_FILE_BYTES) × GaveTooMany lb ln
-IsEnd lb ln wb wn sb sn kb kn (cause.SourceFault faults) = IsFault sb sn faults
-IsEnd lb ln wb wn sb sn kb kn (cause.SinkFault faults) = IsFault kb kn faults × DidPart lb ln wb wn
-IsEnd lb ln wb wn sb sn kb kn cause.Memory = Keeps wb wn ⊎ DidPart lb ln wb wn
+-- why no file is run: the words are not accepted, or none was read
+abbrev pub IsNotRead : (left_before left_now : Option (List ℕ)) → (count_before count_now : ℕ) → Cause → Type 0
+IsNotRead left_before left_now count_before count_now cause.Words = count_now ≡ count_before
+IsNotRead left_before left_now count_before count_now refusal = IsNoFile left_before left_now count_before count_now refusal

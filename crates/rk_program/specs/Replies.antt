@@ -1,9 +1,9 @@
 -- The bytes of a reply, with its line end.
-use Rattle.std.specs.Prelude.{ℕ, List, [], ◌∷◌, ◌++◌, if◌then◌else◌, codes}
+use Rattle.std.specs.Prelude.{◌≡◌, ℕ, List, [], ◌∷◌, ◌++◌, get_or, Option, Some, None, if◌then◌else◌, codes}
 use Rattle.std.specs.Fmt.{decimal}
 use Rattle.std.specs.List.{flat_map}
-use Rattle.std.specs.Option.{option_map_or}
-use Rattle.rk_model.specs.Moves.{View, reported}
+use Rattle.std.specs.Option.{option_map, option_map_or}
+use Rattle.rk_model.specs.Moves.{View, reported, key_at}
 use Rattle.rk_model.specs.Positions.{Report}
 use Rattle.rk_model.specs.Spans.{WidestSpan}
 use Rattle.rk_model.specs.declared.cursor.Cursor.{Cursor}
@@ -15,7 +15,11 @@ use Rattle.rk_outside.specs.declared.error.What.{What}
 use Rattle.rk_outside.specs.declared.error.What.TheVariants as what
 use Rattle.rk_batch.specs.declared.error.BatchError.{BatchError}
 use Rattle.rk_batch.specs.declared.error.BatchError.TheVariants.{Memory, BadKey, EmptySpan, SuffixInBound, TooLong, BadBatch}
-use Rattle.rk_machine.specs.Machine.{Reply, Committed, EmptyBatch, Number, Released, Opened, Stands, Closed}
+use Rattle.rk_outside.specs.declared.error.StoreError.{StoreError}
+use Rattle.rk_outside.specs.declared.error.StoreError.TheVariants.{EmptyBatch, SequenceEnd, MemFull}
+use Rattle.rk_machine.specs.Events.{Reply, Committed, Number, Released, Opened, Stands, Closed, Refused}
+use Rattle.rk_machine.specs.declared.shape.Shape.{Shape}
+use Rattle.rk_iter.specs.Iterating.{Iterating}
 use Rattle.rk_script.specs.Words.{line_end, escaped, escaped_bytes}
 
 -- the suffix, '=' and the value
@@ -72,12 +76,52 @@ refusal_text (BadBatch at) = []
 abbrev pub refused_text : List ℕ → BatchError → List ℕ
 refused_text name error = name ++ codes " refused " ++ refusal_text error ++ line_end ∷ []
 
--- the reply that goes to a writer, a snapshot or an iterator of this name
-abbrev pub reply_text : List ℕ → Reply → List ℕ
-reply_text name (Committed first last) = name ++ codes " committed " ++ decimal first ++ codes " to " ++ decimal last ++ line_end ∷ []
-reply_text name EmptyBatch = name ++ codes " refused EmptyBatch" ++ line_end ∷ []
-reply_text name (Number number) = name ++ codes " at " ++ decimal number ++ line_end ∷ []
-reply_text name Released = name ++ codes " released" ++ line_end ∷ []
-reply_text name (Opened number) = name ++ codes " open at " ++ decimal number ++ line_end ∷ []
-reply_text name (Stands at) = stands_text name at.view
-reply_text name Closed = name ++ codes " closed" ++ line_end ∷ []
+-- words and a number, and words and two numbers
+abbrev pub number_text : List ℕ → ℕ → List ℕ
+number_text words n = words ++ decimal n
+
+abbrev pub two_text : List ℕ → ℕ → ℕ → List ℕ
+two_text words m n = words ++ decimal m ++ codes " " ++ decimal n
+
+-- why a commit is refused, where that is a reply
+abbrev pub uncommitted_text : StoreError → Option (List ℕ)
+uncommitted_text EmptyBatch = Some (codes "EmptyBatch")
+uncommitted_text (SequenceEnd last ops) = Some (two_text (codes "SequenceEnd ") last ops)
+uncommitted_text (MemFull active batch) = Some (two_text (codes "MemFull ") active batch)
+uncommitted_text other = None
+
+-- the reply that goes to a writer, a snapshot or an iterator of this name; none for what ends a run
+abbrev pub reply_text : List ℕ → Reply → Option (List ℕ)
+reply_text name (Committed first last) = Some (name ++ codes " committed " ++ decimal first ++ codes " to " ++ decimal last ++ line_end ∷ [])
+reply_text name (Refused error) = option_map (λ why. name ++ codes " refused " ++ why ++ line_end ∷ []) (uncommitted_text error)
+reply_text name (Number number) = Some (name ++ codes " at " ++ decimal number ++ line_end ∷ [])
+reply_text name Released = Some (name ++ codes " released" ++ line_end ∷ [])
+reply_text name (Opened number) = Some (name ++ codes " open at " ++ decimal number ++ line_end ∷ [])
+reply_text name (Stands at) = Some (stands_text name at.view)
+reply_text name Closed = Some (name ++ codes " closed" ++ line_end ∷ [])
+reply_text name other = None
+
+-- the number of the tables of a level
+abbrev pub level_text : List ℕ → ℕ → List ℕ
+level_text tables level = codes " l" ++ decimal level ++ codes " " ++ decimal (get_or tables level 0)
+
+abbrev pub levels_text : Shape → List ℕ
+levels_text s = flat_map (level_text s.tables) (0 ∷ 1 ∷ 2 ∷ 3 ∷ [])
+
+abbrev pub memtables_text : Shape → List ℕ
+memtables_text s = number_text (codes "shape active ") s.active ++ number_text (codes " frozen ") s.frozen
+
+-- the sizes of the store
+abbrev pub shape_text : Shape → List ℕ
+shape_text s = memtables_text s ++ levels_text s ++ line_end ∷ []
+
+-- what an iterator lends, as it is told: where it stands, and the point, the span and the change there
+abbrev pub lent_place : Iterating → List ℕ
+lent_place it = option_map_or (λ key. report_text (record { key = key; value = it.value; span = it.span })) (key_at it.cursor) (off_text it.cursor)
+
+abbrev pub lent_text : List ℕ → Iterating → List ℕ
+lent_text name it = name ++ lent_place it ++ (if it.changed then codes " changed" else []) ++ line_end ∷ []
+
+-- the text of a reply was added, and there is one
+abbrev pub Tells : List ℕ → List ℕ → List ℕ → Reply → Type 0
+Tells before now name reply = (text : List ℕ) × (reply_text name reply ≡ Some text) × (now ≡ before ++ text)

@@ -1,13 +1,15 @@
 -- What the session keeps, and the state that it stands for.
-use Rattle.std.specs.Prelude.{◌≡◌, ℕ, ◌<◌, ◌≤◌, slice_index_or, slice_set, List, ◌++◌, ◌∷◌, [], map, length, unwrap_or, None, IsSome, All, Result, OnOk, OnErr, IfErr}
+use Rattle.std.specs.Prelude.{◌≡◌, ℕ, ◌<◌, slice_index_or, slice_set, List, ◌++◌, ◌∷◌, [], map, length, unwrap_or, IsSome, IsPermutation, Result, OnOk, OnErr, IfErr}
 use Rattle.rk_model.specs.Named.{named, with_named}
-use Rattle.rk_model.specs.Operations.{entries}
 use Rattle.rk_model.specs.declared.op.Op.{Op}
 use Rattle.rk_batch.specs.Checks.{AllPass, IsRefusal, checks}
 use Rattle.rk_batch.specs.declared.error.BatchError.{BatchError}
-use Rattle.rk_machine.specs.Machine.{Open}
+use Rattle.rk_machine.specs.State.{Open}
+use Rattle.rk_core.specs.Standing.{StandsFor as CoreStandsFor}
+use Rattle.rk_iter_laws.specs.Showing.{IsAt}
 use Rattle.rk_script.specs.Script.{Names}
-use Rattle.rk_program.specs.Transcript.{SessionState}
+use Rattle.rk_script.specs.declared.line.Event.{Event}
+use Rattle.rk_program.specs.Transcript.{SessionState, Does}
 use Rattle.rk_program.specs.declared.session.Writer.{Writer}
 use Rattle.rk_program.specs.declared.session.Snapshot.{Snapshot}
 use Rattle.rk_program.specs.declared.session.OpenIterator.{OpenIterator}
@@ -21,37 +23,41 @@ batches writers = map (λ w. (w.name, w.batch)) writers
 abbrev pub numbers : List Snapshot → List (List ℕ × ℕ)
 numbers snapshots = map (λ x. (x.name, x.number)) snapshots
 
--- the open iterators, as the machine has them
-abbrev pub opens : List OpenIterator → List (List ℕ × Open)
-opens iterators = map (λ i. (i.name, record { number = i.number; view = i.plain })) iterators
+-- each open iterator has the name of one of the machine, and is where that one is
+abbrev pub AreAt : List OpenIterator → List (List ℕ × Open) → Type 0
+AreAt [] [] = Unit {0}
+AreAt [] (o ∷ os) = ⊥
+AreAt (i ∷ is) [] = ⊥
+AreAt (i ∷ is) (o ∷ os) = (i.name ≡ o.0) × IsAt i.iter o.1 × AreAt is os
 
--- a thing of the name is there, or none
+-- a thing of the name is there
 abbrev pub IsLive : {A : Type 0} → List ℕ → List (List ℕ × A) → Type 0
 IsLive name things = IsSome (named name things)
 
-abbrev pub IsFree : {A : Type 0} → List ℕ → List (List ℕ × A) → Type 0
-IsFree name things = named name things ≡ None
-
 -- the names that a session has in use
-abbrev pub names_in : Session → Names
+abbrev pub names_in : {V : Type 0} → Session V → Names
 names_in session = record {
   writers = map (λ w. w.name) session.writers.items;
   snapshots = map (λ x. x.name) session.snapshots.items;
   iterators = map (λ i. i.name) session.iterators.items;
 }
 
--- no snapshot has a number above that of the last entry
-abbrev pub AreWithin : Session → Type 0
-AreWithin session = All (λ x. x.number ≤ length session.entries.items) session.snapshots.items
+-- A session stands for a state: its core for that of the machine, with the batches, the snapshots and the iterators of
+-- the state. The live numbers are those of the snapshots.
+pub record StandsFor {V : Type 0} (session : Session V) (s : SessionState) : Type 0 where
+  pub core : CoreStandsFor session.core s.state
+  pub batches : batches session.writers.items ≡ s.batches
+  pub snapshots : numbers session.snapshots.items ≡ s.snapshots
+  pub live : IsPermutation (map (λ x. x.1) s.snapshots) s.state.live
+  pub iterators : AreAt session.iterators.items s.state.iterators
 
--- A session stands for a state: its entries are those of the state's history, and so on.
-pub record StandsFor (session : Session) (s : SessionState) : Type 0 where
-  pub entries_are : session.entries.items ≡ entries s.state.history
-  pub batches_are : batches session.writers.items ≡ s.batches
-  pub snapshots_are : numbers session.snapshots.items ≡ s.snapshots
-  pub live_are : s.state.live ≡ map (λ x. x.1) s.snapshots
-  pub iterators_are : opens session.iterators.items ≡ s.state.iterators
-  pub within : AreWithin session
+-- something was done whose text was added, and the session stands for the state after it
+abbrev pub DidSo : {V : Type 0} → (List ℕ → SessionState → Type 0) → List ℕ → List ℕ → Session V → Type 0
+DidSo does before now session = (text : List ℕ) × (s' : SessionState) × does text s' × StandsFor session s' × (now ≡ before ++ text)
+
+-- a line was done
+abbrev pub Did : {V : Type 0} → SessionState → Event → List ℕ → List ℕ → Session V → Type 0
+Did s event before now session = DidSo (Does s event) before now session
 
 -- a batch that was given an operation: it has it, or the batch is as before and the refusal is of a check that fails
 pub record IsGiven {T : Type 0} (old new : List Op) (op : Op) (result : Result T BatchError) : Type 0 where

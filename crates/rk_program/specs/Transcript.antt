@@ -9,12 +9,15 @@ use Rattle.rk_model.specs.declared.op.Op.TheVariants as op
 use Rattle.rk_model.specs.declared.options.IterOptions.{IterOptions}
 use Rattle.rk_batch.specs.Checks.{AllPass, IsFirst, checks}
 use Rattle.rk_batch.specs.declared.error.BatchError.{BatchError}
-use Rattle.rk_machine.specs.Machine.{State, start, without_named, Event, Commit as commits, Snap as snaps, Release as releases, OpenAt, Moves, Close as closes, Reply, EmptyBatch, Step}
+use Rattle.rk_machine.specs.State.{State, start, shape_of}
+use Rattle.rk_machine.specs.Events.{Event, Commit as commits, Snap as snaps, Release as releases, OpenAt, Moves, Close as closes, Reply, Committed}
+use Rattle.rk_machine.specs.Iterators.{without_named}
+use Rattle.rk_machine.specs.Machine.{Step}
 use Rattle.rk_script.specs.Script.{Names, is_accepted, names_after}
 use Rattle.rk_script.specs.declared.line.Event.{Event as LineEvent}
-use Rattle.rk_script.specs.declared.line.Event.TheVariants.{Put, Del, RangeSet, RangeUnset, RangeDel, Commit, Snap, Release, Iter, First, Last, Next, Prev, SeekGe, SeekLt, Close}
+use Rattle.rk_script.specs.declared.line.Event.TheVariants.{Put, Del, RangeSet, RangeUnset, RangeDel, Commit, Snap, Release, Iter, First, Last, Next, Prev, SeekGe, SeekLt, Close, Shape}
 use Rattle.rk_script.specs.declared.line.Line.{Line}
-use Rattle.rk_program.specs.Replies.{refused_text, reply_text}
+use Rattle.rk_program.specs.Replies.{refused_text, reply_text, shape_text}
 
 -- The state of the machine, the batch of each writer, and the number of each snapshot
 pub record SessionState : Type 0 where
@@ -41,25 +44,26 @@ DoesOp s writer op text s' =
     (AllPass (checks ops op) × (text ≡ []) × (s' ≡ with_batch writer (ops ++ op ∷ []) s))
     ⊎ ((error : BatchError) × IsFirst (checks ops op) error × (text ≡ refused_text writer error) × (s' ≡ with_batch writer ops s))
 
--- an event of the machine, whose reply is written under a name; the batches and the snapshots are these afterwards
+-- An event of the machine, whose reply is written under a name; the batches and the snapshots are these afterwards. A
+-- reply without a text is no line's: it ends the run.
 abbrev pub DoesEvent : SessionState → List ℕ → Event → List (List ℕ × List Op) → List (List ℕ × ℕ) → List ℕ → SessionState → Type 0
 DoesEvent s name event batches snapshots text s' = (reply : Reply)
     × Step s.state event reply s'.state
-    × (text ≡ reply_text name reply)
+    × (reply_text name reply ≡ Some text)
     × (s'.batches ≡ batches)
     × (s'.snapshots ≡ snapshots)
 
 -- a commit clears its batch, and one that is refused leaves it
 abbrev pub left_by : Reply → List Op → List Op
-left_by EmptyBatch ops = ops
-left_by other ops = []
+left_by (Committed first last) ops = []
+left_by other ops = ops
 
 abbrev pub DoesCommit : SessionState → List ℕ → List ℕ → SessionState → Type 0
 DoesCommit s writer text s' =
     let ops = batch_of writer s in
     (reply : Reply)
     × Step s.state (commits ops) reply s'.state
-    × (text ≡ reply_text writer reply)
+    × (reply_text writer reply ≡ Some text)
     × (s'.batches ≡ with_named writer (left_by reply ops) s.batches)
     × (s'.snapshots ≡ s.snapshots)
 
@@ -76,7 +80,7 @@ DoesOpening s name at options text s' = (number : Option ℕ)
 abbrev pub DoesMove : SessionState → List ℕ → Move → List ℕ → SessionState → Type 0
 DoesMove s iter step text s' = DoesEvent s iter (Moves iter step) s.batches s.snapshots text s'
 
--- What a line does. All but the lines on batches are each one event of the machine.
+-- What a line does. All but the lines on batches are each one event of the machine, or tell of its state.
 abbrev pub Does : SessionState → LineEvent → List ℕ → SessionState → Type 0
 Does s (Put writer key value) text s' = DoesOp s writer (op.Put key value) text s'
 Does s (Del writer key) text s' = DoesOp s writer (op.Del key) text s'
@@ -96,6 +100,7 @@ Does s (Prev iter) text s' = DoesMove s iter move.Prev text s'
 Does s (SeekGe iter key) text s' = DoesMove s iter (move.SeekGe key) text s'
 Does s (SeekLt iter key) text s' = DoesMove s iter (move.SeekLt key) text s'
 Does s (Close iter) text s' = DoesEvent s iter (closes iter) s.batches s.snapshots text s'
+Does s Shape text s' = (text ≡ shape_text (shape_of s.state)) × (s' ≡ s)
 
 -- what is written for lines, one after the other
 abbrev pub IsTranscript : SessionState → List Line → List ℕ → SessionState → Type 0

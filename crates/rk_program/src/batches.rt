@@ -1,45 +1,47 @@
-// The batches of the writers, and their way into the entries.
-ghost use Rattle.std.specs.Prelude.{◌≡◌, ◌+◌, ◌++◌, length, IfOk, OnOk};
-ghost use Rattle.rk_model.specs.Operations.{numbered};
+// The batches of the writers.
+ghost use Rattle.std.specs.Prelude.{IfOk};
 ghost use Rattle.rk_program.specs.Asked.{op_of};
 ghost use Rattle.rk_program.specs.Standing.{IsGiven, IsPlaceOf};
 
 use crate::session::Writer;
 use rk_batch::{Batch, BatchError};
-use rk_model::{Entry, Op};
 use rk_outside::{Bytes, NoMemory};
 use rk_script::find;
 use std::alloc::Global;
 
 /// An operation that a line asks for. Keys, suffixes and values are any bytes, since a batch tests them itself.
-#[derive(Debug, Drop)]
-pub enum BatchOp {
+#[derive(Clone, Copy, Debug)]
+pub(crate) enum BatchOp<'a> {
     Put {
-        key: Bytes,
-        value: Bytes,
+        key: &'a [u8],
+        value: &'a [u8],
     },
     Del {
-        key: Bytes,
+        key: &'a [u8],
     },
     RangeSet {
-        start: Bytes,
-        end: Bytes,
-        suffix: Bytes,
-        value: Bytes,
+        start: &'a [u8],
+        end: &'a [u8],
+        suffix: &'a [u8],
+        value: &'a [u8],
     },
     RangeUnset {
-        start: Bytes,
-        end: Bytes,
-        suffix: Bytes,
+        start: &'a [u8],
+        end: &'a [u8],
+        suffix: &'a [u8],
     },
     RangeDel {
-        start: Bytes,
-        end: Bytes,
+        start: &'a [u8],
+        end: &'a [u8],
     },
 }
 
 /// The place of a writer. A new one is put at the end, with an empty batch.
-pub fn place_of(alloc: Global, writers: &mut Vec<Writer>, name: &Bytes) -> Result<usize, NoMemory>
+pub(crate) fn place_of(
+    alloc: Global,
+    writers: &mut Vec<Writer>,
+    name: &Bytes,
+) -> Result<usize, NoMemory>
     ensures { IfOk result (IsPlaceOf writers.old.items writers.new.items name.now) }
 {
     match find(writers, name.bytes()) {
@@ -53,39 +55,26 @@ pub fn place_of(alloc: Global, writers: &mut Vec<Writer>, name: &Bytes) -> Resul
     }
 }
 
-impl BatchOp {
+impl<'a> BatchOp<'a> {
     /// Gives the operation to a batch.
     ///
     /// # Errors
     ///
     /// The batch's refusal; then the batch is as before.
-    pub fn add_to(&self, batch: &mut Batch) -> Result<(), BatchError>
-        ensures { IsGiven batch.old batch.new (op_of self.now) result }
+    pub(crate) fn add_to(self, batch: &mut Batch) -> Result<(), BatchError>
+        ensures { IsGiven batch.old batch.new (op_of self.entry) result }
     {
         match self {
-            BatchOp::Put { key, value } => batch.set(key.bytes(), value.bytes()),
-            BatchOp::Del { key } => batch.del(key.bytes()),
+            BatchOp::Put { key, value } => batch.set(key, value),
+            BatchOp::Del { key } => batch.del(key),
             BatchOp::RangeSet {
                 start,
                 end,
                 suffix,
                 value,
-            } => batch.rset(start.bytes(), end.bytes(), suffix.bytes(), value.bytes()),
-            BatchOp::RangeUnset { start, end, suffix } => {
-                batch.runset(start.bytes(), end.bytes(), suffix.bytes())
-            }
-            BatchOp::RangeDel { start, end } => batch.rdel(start.bytes(), end.bytes()),
+            } => batch.rset(start, end, suffix, value),
+            BatchOp::RangeUnset { start, end, suffix } => batch.runset(start, end, suffix),
+            BatchOp::RangeDel { start, end } => batch.rdel(start, end),
         }
     }
-}
-
-/// Appends operations to the entries, with the numbers that follow.
-pub fn append(entries: &mut Vec<Entry>, ops: Vec<Op>) -> Result<(), NoMemory>
-    ensures { OnOk result (entries.new.items ≡ entries.old.items ++ numbered (length entries.old.items + 1) ops.items) }
-{
-    for op in ops {
-        let seq = entries.len() as u64 + 1;
-        entries.push(Entry { op, seq })?;
-    }
-    Ok(())
 }

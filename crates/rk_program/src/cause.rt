@@ -115,3 +115,21 @@ pub struct Ended<V> {
     /// The vault, as it was handed in.
     pub vault: V,
 }
+
+impl<V> Ended<V> {
+    ghost use Rattle.std.specs.Prelude.{◌≡◌};
+    ghost use Rattle.rk_program.specs.Causes.{status_of};
+
+    // A run that ended so.
+    pub(crate) fn new(cause: Cause, vault: V) -> Ended<V>
+        ensures status { result.status ≡ status_of cause }
+        ensures cause { result.cause ≡ cause }
+        ensures vault { result.vault ≡ vault }
+    {
+        Ended {
+            status: cause.status(),
+            cause,
+            vault,
+        }
+    }
+}

@@ -1,10 +1,11 @@
 //! The program `rkrange`, over any source, sink and vault.
 //!
-//! It stands on rk_script, which reads command files, on rk_batch for each writer's batch, on rk_model, whose
-//! plain evaluator answers the moves of an iterator, on the definitions of rk_machine, and on rk_key and
-//! rk_outside. Its main contract is that of `run`: what is written is the transcript of a run of the machine over
-//! the lines of the file, each position what the whole operations up to the iterator's number give, and each way
-//! to end has its cause. A file that may be run has one transcript, and no two ([`a_file_has_one_transcript`]).
+//! It stands on rk_script, which reads command files, on rk_batch for each writer's batch, on rk_core, the store, on
+//! rk_iter for its iterators, on rk_iter_laws, by which these are where the machine's are, on the definitions of
+//! rk_machine, and on rk_model, rk_key and rk_outside. Its main contract is that of `run`: what is written is the
+//! transcript of a run of the machine over the lines of the file, each position what the whole operations up to the
+//! iterator's number give, and each way to end has its cause. A file that may be run has one transcript, and no two
+//! ([`a_file_has_one_transcript`]). `run` does each line by [`Session::line`].
 #![tactic(auto)]
 
 mod batches;
@@ -21,3 +22,4 @@ pub use cause::{Cause, Ended};
 pub use laws::a_file_has_one_transcript;
 pub use program::run;
 pub use rk_script::Why;
+pub use session::Session;

@@ -1,40 +1,41 @@
 // The moves of iterators.
-ghost use Rattle.std.specs.Prelude.{◌≡◌, IfOk, OnOk, is_some};
-ghost use Rattle.rk_model.specs.Moves.{after_move, key_at};
+ghost use Rattle.std.specs.Prelude.{IfOk};
+ghost use Rattle.rk_laws.specs.SameCells.{SeeksKey};
+ghost use Rattle.rk_iter.specs.Iterating.{Moves};
 ghost use Rattle.rk_program.specs.Asked.{move_of};
 
+use rk_iter::Iter;
 use rk_key::UserKey;
-use rk_model::Plain;
-use rk_outside::NoMemory;
+use rk_outside::SourceError;
 
 /// A move that a line asks for.
-#[derive(Debug, Drop)]
-pub enum Move {
+#[derive(Clone, Copy, Debug)]
+pub(crate) enum Move<'a> {
     First,
     Last,
     Next,
     Prev,
-    SeekGe(UserKey),
-    SeekLt(UserKey),
+    SeekGe(&'a UserKey),
+    SeekLt(&'a UserKey),
 }
 
-impl Move {
+impl<'a> Move<'a> {
     /// Makes the move with an iterator, and answers whether it is at a key then.
     ///
     /// # Errors
     ///
-    /// [`NoMemory`] where there is no memory for it.
-    pub fn make(&self, plain: &mut Plain) -> Result<bool, NoMemory>
-        ensures moved { OnOk result (plain.new ≡ after_move plain.old (move_of self.now)) }
-        ensures answer { IfOk result (λ there. there ≡ is_some (key_at plain.new.cursor)) }
+    /// `Memory` where what the iterator shows finds none. It stays as it was.
+    pub(crate) fn make(self, iter: &mut Iter) -> Result<bool, SourceError>
+        ensures moves { Moves iter.old iter.new (move_of self.entry) result }
+        ensures keyed { SeeksKey (move_of self.entry) }
     {
         match self {
-            Move::First => plain.first(),
-            Move::Last => plain.last(),
-            Move::Next => plain.next(),
-            Move::Prev => plain.prev(),
-            Move::SeekGe(key) => plain.seek_ge(key),
-            Move::SeekLt(key) => plain.seek_lt(key),
+            Move::First => iter.first(),
+            Move::Last => iter.last(),
+            Move::Next => iter.next(),
+            Move::Prev => iter.prev(),
+            Move::SeekGe(key) => iter.seek_ge(key),
+            Move::SeekLt(key) => iter.seek_lt(key),
         }
     }
 }

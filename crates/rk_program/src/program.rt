@@ -1,21 +1,22 @@
 // The top call.
-ghost use Rattle.std.specs.Prelude.{◌≡◌, ℕ, ◌≤◌, ◌+◌, ◌⊎◌, List, Some, Ok, IfSome, IfOk, IfErr, OnOk, OnErr, IsTrue, not, length};
+ghost use Rattle.std.specs.Prelude.{◌≡◌, ℕ, ◌≤◌, ◌+◌, ◌⊎◌, true, List, Some, Ok, IsOk, IfSome, IfOk, IfErr, OnOk, OnErr, IsTrue, not, length};
 ghost use Rattle.std.specs.Io.KnownBytes.{Keeps};
 ghost use Rattle.rk_outside.specs.Causes.{Rose};
 ghost use Rattle.rk_script.specs.Script.{no_names, script};
 ghost use Rattle.rk_script.specs.declared.line.Line.{Line};
-ghost use Rattle.rk_program.specs.Causes.{cause_of, status_of, are_words, is_words, OnDone, OnLine, OnLength, OnSourceFault, OnSinkFault, OnMemory, OnNotBegun, UnlessSourceFault, UnlessSinkFault, IsDoneOrMemory};
-ghost use Rattle.rk_program.specs.Input.{GaveTooMany, TookAtMost, IsFault};
+ghost use Rattle.rk_program.specs.Causes.{status_of, are_words, is_words, OnDone, OnLine, OnLength, OnSourceFault, OnSinkFault, OnMemory, OnNotBegun, UnlessSourceFault, UnlessSinkFault, IsDoneOrMemory};
+ghost use Rattle.rk_program.specs.Input.{GaveAll, GaveTooMany, TookAtMost, IsFault};
 ghost use Rattle.rk_program.specs.Output.{IsSinkRefusal};
-ghost use Rattle.rk_program.specs.Ends.{GaveLines, GaveBadLine, Wrote, WrotePart, DidAll, DidPart, IsNoFile, IsEnd};
-ghost use Rattle.rk_program.specs.Transcript.{AreAccepted};
+ghost use Rattle.rk_program.specs.Ends.{GaveBadLine, Wrote, WrotePart, DidAll, DidPart, IsNotRead};
+ghost use Rattle.rk_program.specs.Standing.{StandsFor};
+ghost use Rattle.rk_program.specs.Transcript.{begin};
 
 use crate::input::{MOST_FILE_BYTES, read_all};
 use crate::output::{finish, write_all};
 use crate::session::Session;
 use crate::{Cause, Ended};
 use rk_outside::{Sink, Source};
-use rk_script::{Line, read_script};
+use rk_script::{Lines, check_script};
 use std::alloc::Global;
 
 /// Runs the program over a source, a sink and a vault: it takes the words, reads the source to its end,
@@ -66,37 +67,36 @@ pub fn run<S: Source, K: Sink, V>(
         → IsTrue (are_words words.now) → ¬ Rose (S.fault_count source.old) (S.fault_count source.new)
         → ¬ Rose (K.fault_count sink.old) (K.fault_count sink.new) → IsDoneOrMemory result.cause }
 {
-    let cause = Cause::of(do_all(alloc, words, source, sink));
-    Ended {
-        status: cause.status(),
-        cause,
-        vault,
+    let file = match read_file(alloc, words, source) {
+        Ok(file) => file,
+        Err(cause) => return Ended::new(cause, vault),
+    };
+    match Session::begin(alloc, vault) {
+        Ok(mut session) => {
+            let cause = Cause::of(do_lines(alloc, &file, &mut session, sink));
+            Ended::new(cause, session.end().vault)
+        }
+        Err(refused) => Ended::new(Cause::Memory, refused.value),
     }
 }
 
-// Reads the source, and does its lines.
-fn do_all<S: Source, K: Sink>(
-    alloc: Global,
-    words: &[String],
-    source: &mut S,
-    sink: &mut K,
-) -> Result<(), Cause>
-    ensures words { is_words (cause_of result) ≡ not (are_words words.now) }
-    ensures unread { IsTrue (is_words (cause_of result)) → source.new ≡ source.old }
+// Reads the file that the words ask to run, and checks the whole of it.
+fn read_file<S: Source>(alloc: Global, words: &[String], source: &mut S) -> Result<Vec<u8>, Cause>
+    ensures words { IfErr result (λ cause. is_words cause ≡ not (are_words words.now)) }
+    ensures accepted { OnOk result (are_words words.now ≡ true) }
+    ensures unread { IfErr result (λ cause. IsTrue (is_words cause) → source.new ≡ source.old) }
     ensures taken { TookAtMost (S.left source.old) (S.left source.new) (MOST_FILE_BYTES + 1) }
-    ensures end { IsEnd (S.left source.old) (S.left source.new) (K.written sink.old) (K.written sink.new) (S.fault_count source.old) (S.fault_count source.new) (K.fault_count sink.old) (K.fault_count sink.new) (cause_of result) }
-    ensures source_count { S.fault_count source.old ≤ S.fault_count source.new }
-    ensures sink_count { K.fault_count sink.old ≤ K.fault_count sink.new }
-    ensures not_begun { OnNotBegun (cause_of result) (sink.new ≡ sink.old) }
-    ensures no_source_fault { UnlessSourceFault (cause_of result) (S.fault_count source.new ≡ S.fault_count source.old) }
-    ensures no_sink_fault { UnlessSinkFault (cause_of result) (K.fault_count sink.new ≡ K.fault_count sink.old) }
-    ensures finished { OnDone (cause_of result) (IfSome (K.finished sink.new) IsTrue) }
+    ensures gave { IfOk result (λ file. (lines : List Line) × GaveAll (S.left source.old) (S.left source.new) file.items × (script file.items ≡ Ok lines)) }
+    ensures no_fault { OnOk result (S.fault_count source.new ≡ S.fault_count source.old) }
+    ensures cause { IfErr result (IsNotRead (S.left source.old) (S.left source.new) (S.fault_count source.old) (S.fault_count source.new)) }
+    ensures later { S.fault_count source.old ≤ S.fault_count source.new }
 {
     if !is_run(words) {
         return Err(Cause::Words);
     }
-    let lines = read_lines(alloc, source)?;
-    do_lines(alloc, lines, sink)
+    let file = read_all(alloc, source)?;
+    check_script(alloc, &file)?;
+    Ok(file)
 }
 
 // Whether the words are the one word `run`.
@@ -109,31 +109,32 @@ fn is_run(words: &[String]) -> bool
     }
 }
 
-// Reads a source to its end, and the lines of what it gave.
-fn read_lines<S: Source>(alloc: Global, source: &mut S) -> Result<Vec<Line>, Cause>
-    ensures lines { IfOk result (λ lines. GaveLines (S.left source.old) (S.left source.new) lines.items) }
-    ensures taken { TookAtMost (S.left source.old) (S.left source.new) (MOST_FILE_BYTES + 1) }
-    ensures no_fault { OnOk result (S.fault_count source.new ≡ S.fault_count source.old) }
-    ensures cause { IfErr result (IsNoFile (S.left source.old) (S.left source.new) (S.fault_count source.old) (S.fault_count source.new)) }
-    ensures later { S.fault_count source.old ≤ S.fault_count source.new }
-{
-    let file = read_all(alloc, source)?;
-    Ok(read_script(alloc, &file)?)
-}
-
-// Does the lines one after the other, each line's replies before the next line, and finishes the sink.
-fn do_lines<K: Sink>(alloc: Global, lines: Vec<Line>, sink: &mut K) -> Result<(), Cause>
-    requires { AreAccepted no_names lines.items }
-    ensures done { OnOk result (Wrote (K.written sink.old) (K.written sink.new) lines.items) }
+// Does the lines of a file one after the other, each line's replies before the next line, and finishes the sink.
+fn do_lines<K: Sink, V>(
+    alloc: Global,
+    file: &[u8],
+    session: &mut Session<V>,
+    sink: &mut K,
+) -> Result<(), Cause>
+    requires script { IsOk (script file.now) }
+    requires begun { StandsFor session.old begin }
+    ensures done { OnOk result ((lines : List Line) → script file.now ≡ Ok lines → Wrote (K.written sink.old) (K.written sink.new) lines) }
     ensures finished { OnOk result (IfSome (K.finished sink.new) IsTrue) }
     ensures no_fault { OnOk result (K.fault_count sink.new ≡ K.fault_count sink.old) }
-    ensures part { OnErr result (WrotePart (K.written sink.old) (K.written sink.new) lines.items) }
+    ensures part { OnErr result ((lines : List Line) → script file.now ≡ Ok lines → WrotePart (K.written sink.old) (K.written sink.new) lines) }
     ensures cause { IfErr result (IsSinkRefusal (K.fault_count sink.old) (K.fault_count sink.new)) }
     ensures later { K.fault_count sink.old ≤ K.fault_count sink.new }
+    ensures vault { session.new.core.vault ≡ session.old.core.vault }
 {
-    let mut session = Session::new(alloc);
-    for line in lines {
-        let text = session.line(line.event)?;
+    let mut lines = Lines::new(alloc, file);
+    let mut text = Vec::new(alloc);
+    while let Some(line) = lines.next(alloc)? {
+        text.clear();
+        let failed = session.line(&line, &mut text).is_err();
+        drop(line);
+        if failed {
+            return Err(Cause::Memory);
+        }
         write_all(sink, &text)?;
     }
     finish(sink)

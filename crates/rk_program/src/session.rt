@@ -1,14 +1,18 @@
-// The state of a run: what was committed, the batches of the writers, the snapshots, and the open iterators.
-ghost use Rattle.std.specs.Prelude.{◌≡◌, ◌<◌, true, false, map, take, length, slice_index_or};
+// The state of a run: the store, the batches of the writers, the snapshots, and the open iterators.
+ghost use Rattle.std.specs.Prelude.{◌≡◌, ◌<◌, true, false, map, take, length, slice_index_or, option_map, IfOk};
+ghost use Rattle.rk_program.specs.Asked.{op_of, operation_of};
 ghost use Rattle.rk_script.specs.Naming.{is_called};
 
-use crate::batches::{BatchOp, append, place_of};
+use crate::batches::{BatchOp, place_of};
 use crate::moves::Move;
 use crate::replies;
 use rk_batch::Batch;
-use rk_model::{Entry, IterOptions, Plain};
-use rk_outside::{Bytes, NoMemory};
-use rk_script::{Event, Named, find};
+use rk_core::{Closed, Core};
+use rk_iter::Iter;
+use rk_key::{Suffix, UserKey};
+use rk_model::{IterOptions, copy_bound};
+use rk_outside::{Bytes, NoMemory, Refused, StoreError};
+use rk_script::{Event, Line, Named, find};
 use std::alloc::Global;
 
 /// A writer and its batch.
@@ -41,12 +45,11 @@ impl Named for Snapshot {
     }
 }
 
-/// An open iterator: its name, the number that its opening fixed, and the evaluator that answers its moves.
+/// An open iterator and its name.
 #[derive(Debug, Drop)]
 pub struct OpenIterator {
     pub name: Bytes,
-    pub number: u64,
-    pub plain: Plain,
+    pub iter: Iter,
 }
 
 impl Named for OpenIterator {
@@ -57,199 +60,304 @@ impl Named for OpenIterator {
     }
 }
 
-/// What a run keeps: all entries that were committed, in one list, the writers, the snapshots, and the open
-/// iterators.
+/// What a run keeps: the store, the writers, the snapshots, the open iterators, and the room for the reply to a line.
 #[derive(Debug, Drop)]
-pub struct Session {
-    pub alloc: Global,
-    pub entries: Vec<Entry>,
-    pub writers: Vec<Writer>,
-    pub snapshots: Vec<Snapshot>,
-    pub iterators: Vec<OpenIterator>,
+pub struct Session<V> {
+    pub(crate) alloc: Global,
+    pub(crate) core: Core<V>,
+    pub(crate) writers: Vec<Writer>,
+    pub(crate) snapshots: Vec<Snapshot>,
+    pub(crate) iterators: Vec<OpenIterator>,
+    pub(crate) reply: Vec<u8>,
 }
 
-impl Session {
-    ghost use Rattle.std.specs.Prelude.{◌≡◌, ◌≤◌, List, IsTrue, IfOk, IfSome, length};
-    ghost use Rattle.rk_model.specs.Named.{named};
+impl<V> Session<V> {
+    ghost use Rattle.std.specs.Prelude.{◌≡◌, ◌<◌, true, false, IsTrue, IfOk, IfErr, IfSome, OnOk, OnErr, Ok, None, length};
+    ghost use Rattle.rk_outside.specs.declared.error.StoreError.TheVariants as store_error;
+    ghost use Rattle.rk_script.specs.Naming.{is_called};
     ghost use Rattle.rk_script.specs.Script.{is_accepted};
-    ghost use Rattle.rk_script.specs.declared.line.Event.TheVariants.{Snap, Release, Close};
-    ghost use Rattle.rk_program.specs.Asked.{op_of, move_of};
-    ghost use Rattle.rk_program.specs.Transcript.{SessionState, begin, DoesOp, DoesCommit, DoesOpening, DoesMove, Does};
-    ghost use Rattle.rk_program.specs.Standing.{StandsFor, AreWithin, names_in, numbers, opens, IsFree, IsLive};
+    ghost use Rattle.rk_script.specs.declared.line.Event.TheVariants.{Snap, Release, Close, Shape};
+    ghost use Rattle.rk_machine.specs.declared.limits.TheConstants.{MOST_SNAPSHOTS};
+    ghost use Rattle.rk_program.specs.Asked.{op_of, move_of, operation_of};
+    ghost use Rattle.rk_program.specs.Transcript.{SessionState, begin, DoesOp, DoesCommit, DoesOpening, DoesMove, Does, IsTime};
+    ghost use Rattle.rk_program.specs.Standing.{StandsFor, Did, DidSo, names_in, numbers, IsLive};
 
-    /// Nothing was committed, and no name is in use.
-    pub fn new(alloc: Global) -> Session
-        ensures { StandsFor result begin }
-    {
-        Session {
-            alloc,
-            entries: Vec::new(alloc),
-            writers: Vec::new(alloc),
-            snapshots: Vec::new(alloc),
-            iterators: Vec::new(alloc),
-        }
-    }
-
-    /// Does what a line asks for, and answers what is written for it.
+    /// Opens the store over a vault. Nothing was committed, and no name is in use.
     ///
     /// # Errors
     ///
-    /// [`NoMemory`] where there is no memory for it.
-    pub fn line(&mut self, event: Event) -> Result<Vec<u8>, NoMemory>
-        requires accepted { IsTrue (is_accepted (names_in self.old) event) }
-        requires within { AreWithin self.old }
-        ensures { (s : SessionState) → StandsFor self.old s → IfOk result (λ text. (t : SessionState) × Does s event text.items t × StandsFor self.new t) }
+    /// `Memory` alone. The vault is handed back.
+    pub fn begin(alloc: Global, vault: V) -> Result<Session<V>, Refused<V>>
+        ensures stands { IfOk result (λ session. StandsFor session begin) }
+        ensures vault { IfOk result (λ session. session.core.vault ≡ vault) }
+        ensures memory { IfErr result (λ refused. refused.error ≡ store_error.Memory) }
+        ensures back { IfErr result (λ refused. refused.value ≡ vault) }
+    {
+        let core = Core::open(alloc, vault)?;
+        Ok(Session {
+            alloc,
+            core,
+            writers: Vec::new(alloc),
+            snapshots: Vec::new(alloc),
+            iterators: Vec::new(alloc),
+            reply: Vec::new(alloc),
+        })
+    }
+
+    /// Does what a line asks for, and adds its replies to `out`, with their line ends.
+    ///
+    /// # Errors
+    ///
+    /// `Memory` alone. Then `out` is as before.
+    pub fn line(&mut self, line: &Line, out: &mut Vec<u8>) -> Result<(), StoreError>
+        requires accepted { IsTrue (is_accepted (names_in self.old) line.now.event) }
+        ensures did { (s : SessionState) → StandsFor self.old s → OnOk result (Did s line.now.event out.old.items out.new.items self.new) }
+        ensures memory { IfErr result (λ error. error ≡ store_error.Memory) }
+        ensures kept { OnErr result (out.new.items ≡ out.old.items) }
+        ensures vault { self.new.core.vault ≡ self.old.core.vault }
+    {
+        self.reply.clear();
+        match self.event(&line.event) {
+            Ok(()) => match out.extend_from_slice(&self.reply) {
+                Ok(()) => Ok(()),
+                Err(_) => Err(StoreError::Memory),
+            },
+            Err(NoMemory) => Err(StoreError::Memory),
+        }
+    }
+
+    /// Closes the store, and hands the vault back.
+    pub fn end(self) -> Closed<V>
+        ensures vault { result.vault ≡ self.core.vault }
+        ensures done { result.result ≡ Ok tt }
+    {
+        self.core.close()
+    }
+
+    // Does what a line asks for. Its reply is added to that of this session.
+    fn event(&mut self, event: &Event) -> Result<(), NoMemory>
+        requires accepted { IsTrue (is_accepted (names_in self.old) event.now) }
+        ensures did { (s : SessionState) → StandsFor self.old s → OnOk result (Did s event.now self.old.reply.items self.new.reply.items self.new) }
+        ensures vault { self.new.core.vault ≡ self.old.core.vault }
+    {
+        match operation(event) {
+            Some((writer, op)) => self.give(writer, op),
+            None => self.other(event),
+        }
+    }
+
+    // Does what a line asks for that is not on a batch alone.
+    fn other(&mut self, event: &Event) -> Result<(), NoMemory>
+        requires other { operation_of event.now ≡ None }
+        requires accepted { IsTrue (is_accepted (names_in self.old) event.now) }
+        ensures did { (s : SessionState) → StandsFor self.old s → OnOk result (Did s event.now self.old.reply.items self.new.reply.items self.new) }
+        ensures vault { self.new.core.vault ≡ self.old.core.vault }
     {
         match event {
-            Event::Put { writer, key, value } => self.give(&writer, &BatchOp::Put { key, value }),
-            Event::Del { writer, key } => self.give(&writer, &BatchOp::Del { key }),
-            Event::RangeSet {
-                writer,
-                start,
-                end,
-                suffix,
-                value,
-            } => self.give(
-                &writer,
-                &BatchOp::RangeSet {
-                    start,
-                    end,
-                    suffix,
-                    value,
-                },
-            ),
-            Event::RangeUnset {
-                writer,
-                start,
-                end,
-                suffix,
-            } => self.give(&writer, &BatchOp::RangeUnset { start, end, suffix }),
-            Event::RangeDel { writer, start, end } => {
-                self.give(&writer, &BatchOp::RangeDel { start, end })
-            }
-            Event::Commit { writer } => self.commit(&writer),
+            Event::Commit { writer } => self.commit(writer),
             Event::Snap { name } => self.snap(name),
-            Event::Release { name } => self.release(&name),
+            Event::Release { name } => self.release(name),
+            Event::Shape => self.shape(),
             Event::Iter {
                 name,
                 at,
                 lower,
                 upper,
                 mask,
-            } => self.open(name, &at, &IterOptions { lower, upper, mask }),
-            Event::First { iter } => self.step(&iter, &Move::First),
-            Event::Last { iter } => self.step(&iter, &Move::Last),
-            Event::Next { iter } => self.step(&iter, &Move::Next),
-            Event::Prev { iter } => self.step(&iter, &Move::Prev),
-            Event::SeekGe { iter, key } => self.step(&iter, &Move::SeekGe(key)),
-            Event::SeekLt { iter, key } => self.step(&iter, &Move::SeekLt(key)),
-            Event::Close { iter } => self.close(&iter),
+            } => self.open(name, at, &options(lower, upper, mask)?),
+            Event::First { iter } => self.step(iter, Move::First),
+            Event::Last { iter } => self.step(iter, Move::Last),
+            Event::Next { iter } => self.step(iter, Move::Next),
+            Event::Prev { iter } => self.step(iter, Move::Prev),
+            Event::SeekGe { iter, key } => self.step(iter, Move::SeekGe(key)),
+            Event::SeekLt { iter, key } => self.step(iter, Move::SeekLt(key)),
+            Event::Close { iter } => self.close(iter),
+            _ => unreachable!(),
         }
     }
 
     // Gives a writer's batch an operation. A refusal is told.
-    fn give(&mut self, writer: &Bytes, op: &BatchOp) -> Result<Vec<u8>, NoMemory>
-        ensures { (s : SessionState) → StandsFor self.old s → IfOk result (λ text. (t : SessionState) × DoesOp s writer.now (op_of op.now) text.items t × StandsFor self.new t) }
+    fn give(&mut self, writer: &Bytes, op: BatchOp<'_>) -> Result<(), NoMemory>
+        ensures did { (s : SessionState) → StandsFor self.old s → OnOk result (DidSo (DoesOp s writer.now (op_of op.entry)) self.old.reply.items self.new.reply.items self.new) }
+        ensures vault { self.new.core.vault ≡ self.old.core.vault }
     {
         let i = place_of(self.alloc, &mut self.writers, writer)?;
         match op.add_to(&mut self.writers[i].batch) {
-            Ok(()) => Ok(Vec::new(self.alloc)),
-            Err(error) => replies::refused(self.alloc, writer.bytes(), error),
+            Ok(()) => Ok(()),
+            Err(error) => replies::refused(self.alloc, &mut self.reply, writer.bytes(), error),
         }
     }
 
-    // Moves the operations of a writer's batch behind the entries. A batch without operations is refused.
-    fn commit(&mut self, writer: &Bytes) -> Result<Vec<u8>, NoMemory>
-        ensures { (s : SessionState) → StandsFor self.old s → IfOk result (λ text. (t : SessionState) × DoesCommit s writer.now text.items t × StandsFor self.new t) }
+    // Commits a writer's batch. A refusal is told, but for want of memory, and leaves the batch.
+    fn commit(&mut self, writer: &Bytes) -> Result<(), NoMemory>
+        ensures did { (s : SessionState) → StandsFor self.old s → OnOk result (DidSo (DoesCommit s writer.now) self.old.reply.items self.new.reply.items self.new) }
+        ensures vault { self.new.core.vault ≡ self.old.core.vault }
     {
         let i = place_of(self.alloc, &mut self.writers, writer)?;
-        let batch = &mut self.writers[i].batch;
-        if batch.count() == 0 {
-            return replies::empty_batch(self.alloc, writer.bytes());
+        match self.core.commit(&self.writers[i].batch, false) {
+            Ok(numbers) => {
+                self.writers[i].batch.clear();
+                replies::committed(self.alloc, &mut self.reply, writer.bytes(), numbers)
+            }
+            Err(error) => replies::uncommitted(self.alloc, &mut self.reply, writer.bytes(), error),
         }
-        let first = self.entries.len() as u64 + 1;
-        append(&mut self.entries, batch.take_ops())?;
-        let last = self.entries.len() as u64;
-        replies::committed(self.alloc, writer.bytes(), first, last)
     }
 
     // Takes a snapshot of what is committed now.
-    fn snap(&mut self, name: Bytes) -> Result<Vec<u8>, NoMemory>
-        ensures { (s : SessionState) → StandsFor self.old s → IfOk result (λ text. (t : SessionState) × Does s (Snap name) text.items t × StandsFor self.new t) }
+    fn snap(&mut self, name: &Bytes) -> Result<(), NoMemory>
+        requires room { length self.old.snapshots.items < MOST_SNAPSHOTS }
+        ensures did { (s : SessionState) → StandsFor self.old s → OnOk result (DidSo (Does s (Snap name.now)) self.old.reply.items self.new.reply.items self.new) }
+        ensures vault { self.new.core.vault ≡ self.old.core.vault }
     {
-        let number = self.entries.len() as u64;
-        let text = replies::snapped(self.alloc, name.bytes(), number)?;
+        let Ok(number) = self.core.snap() else {
+            return Err(NoMemory);
+        };
+        replies::snapped(self.alloc, &mut self.reply, name.bytes(), number)?;
+        let name = name.copy()?;
         self.snapshots.push(Snapshot { name, number })?;
-        Ok(text)
+        Ok(())
     }
 
     // Releases a snapshot.
-    fn release(&mut self, name: &Bytes) -> Result<Vec<u8>, NoMemory>
+    fn release(&mut self, name: &Bytes) -> Result<(), NoMemory>
         requires live { IsLive name.now (numbers self.old.snapshots.items) }
-        ensures { (s : SessionState) → StandsFor self.old s → IfOk result (λ text. (t : SessionState) × Does s (Release name.now) text.items t × StandsFor self.new t) }
+        ensures did { (s : SessionState) → StandsFor self.old s → OnOk result (DidSo (Does s (Release name.now)) self.old.reply.items self.new.reply.items self.new) }
+        ensures vault { self.new.core.vault ≡ self.old.core.vault }
     {
         let i = live_place(&self.snapshots, name);
-        let _ = self.snapshots.remove(i);
-        replies::released(self.alloc, name.bytes())
+        let snapshot = self.snapshots.remove(i);
+        match self.core.release(snapshot.number) {
+            Ok(()) => replies::released(&mut self.reply, name.bytes()),
+            Err(_) => Err(NoMemory),
+        }
     }
 
-    // Opens an iterator over the entries up to a snapshot's number, or over those that are committed now.
+    // Opens an iterator over what a snapshot shows, or over what is committed now.
     fn open(
         &mut self,
-        name: Bytes,
+        name: &Bytes,
         at: &Option<Bytes>,
         options: &IterOptions,
-    ) -> Result<Vec<u8>, NoMemory>
-        requires free { IsFree name (opens self.old.iterators.items) }
+    ) -> Result<(), NoMemory>
+        requires free { is_called name.now (names_in self.old).iterators ≡ false }
         requires live { IfSome at.now (λ snapshot. IsLive snapshot (numbers self.old.snapshots.items)) }
-        requires within { AreWithin self.old }
-        ensures { (s : SessionState) → StandsFor self.old s → IfOk result (λ text. (t : SessionState) × DoesOpening s name at.now options.now text.items t × StandsFor self.new t) }
+        ensures did { (s : SessionState) → StandsFor self.old s → OnOk result (DidSo (DoesOpening s name.now at.now options.now) self.old.reply.items self.new.reply.items self.new) }
+        ensures vault { self.new.core.vault ≡ self.old.core.vault }
     {
         let number = self.time(at);
-        let plain = Plain::new(self.alloc, &self.entries[..number as usize], options)?;
-        let text = replies::opened(self.alloc, name.bytes(), number)?;
-        self.iterators.push(OpenIterator {
-            name,
-            number,
-            plain,
-        })?;
-        Ok(text)
+        let Ok(pins) = self.core.pin(number) else {
+            return Err(NoMemory);
+        };
+        let number = pins.number;
+        let iter = Iter::open(self.alloc, pins, options)?;
+        replies::opened(self.alloc, &mut self.reply, name.bytes(), number)?;
+        let name = name.copy()?;
+        self.iterators.push(OpenIterator { name, iter })?;
+        Ok(())
     }
 
-    // The number of a snapshot, or of the last entry.
-    fn time(&self, at: &Option<Bytes>) -> u64
+    // The number of a snapshot, where one is named.
+    fn time(&self, at: &Option<Bytes>) -> Option<u64>
         requires live { IfSome at.now (λ snapshot. IsLive snapshot (numbers self.now.snapshots.items)) }
-        requires within { AreWithin self.now }
-        ensures last { at.now ≡ None → result ≡ length self.now.entries.items }
-        ensures number { IfSome at.now (λ snapshot. named snapshot (numbers self.now.snapshots.items) ≡ Some result) }
-        ensures within { result ≤ length self.now.entries.items }
+        ensures { (s : SessionState) → StandsFor self.now s → IsTime s at.now result }
     {
-        let Some(snapshot) = at else {
-            return self.entries.len() as u64;
-        };
+        let snapshot = at.as_ref()?;
         let i = live_place(&self.snapshots, snapshot);
-        self.snapshots[i].number
+        Some(self.snapshots[i].number)
     }
 
     // Moves an iterator.
-    fn step(&mut self, iter: &Bytes, step: &Move) -> Result<Vec<u8>, NoMemory>
-        requires live { IsLive iter.now (opens self.old.iterators.items) }
-        ensures { (s : SessionState) → StandsFor self.old s → IfOk result (λ text. (t : SessionState) × DoesMove s iter.now (move_of step.now) text.items t × StandsFor self.new t) }
+    fn step(&mut self, iter: &Bytes, step: Move<'_>) -> Result<(), NoMemory>
+        requires live { is_called iter.now (names_in self.old).iterators ≡ true }
+        ensures did { (s : SessionState) → StandsFor self.old s → OnOk result (DidSo (DoesMove s iter.now (move_of step.entry)) self.old.reply.items self.new.reply.items self.new) }
+        ensures vault { self.new.core.vault ≡ self.old.core.vault }
     {
         let i = live_place(&self.iterators, iter);
-        step.make(&mut self.iterators[i].plain)?;
-        replies::stands(self.alloc, iter.bytes(), &self.iterators[i].plain)
+        match step.make(&mut self.iterators[i].iter) {
+            Ok(_) => replies::stands(&mut self.reply, iter.bytes(), &self.iterators[i].iter),
+            Err(_) => Err(NoMemory),
+        }
     }
 
     // Closes an iterator.
-    fn close(&mut self, iter: &Bytes) -> Result<Vec<u8>, NoMemory>
-        requires live { IsLive iter.now (opens self.old.iterators.items) }
-        ensures { (s : SessionState) → StandsFor self.old s → IfOk result (λ text. (t : SessionState) × Does s (Close iter.now) text.items t × StandsFor self.new t) }
+    fn close(&mut self, iter: &Bytes) -> Result<(), NoMemory>
+        requires live { is_called iter.now (names_in self.old).iterators ≡ true }
+        ensures did { (s : SessionState) → StandsFor self.old s → OnOk result (DidSo (Does s (Close iter.now)) self.old.reply.items self.new.reply.items self.new) }
+        ensures vault { self.new.core.vault ≡ self.old.core.vault }
     {
         let i = live_place(&self.iterators, iter);
         let _ = self.iterators.remove(i);
-        replies::closed(self.alloc, iter.bytes())
+        replies::closed(&mut self.reply, iter.bytes())
     }
+
+    // Tells the sizes of the store.
+    fn shape(&mut self) -> Result<(), NoMemory>
+        ensures did { (s : SessionState) → StandsFor self.old s → OnOk result (DidSo (Does s Shape) self.old.reply.items self.new.reply.items self.new) }
+        ensures vault { self.new.core.vault ≡ self.old.core.vault }
+    {
+        replies::shape(self.alloc, &mut self.reply, self.core.shape())
+    }
+}
+
+// The writer and the operation of a line on a batch.
+fn operation(event: &Event) -> Option<(&Bytes, BatchOp<'_>)>
+    ensures { option_map (λ asked. (asked.0.now, op_of asked.1)) result ≡ operation_of event.now }
+{
+    match event {
+        Event::Put { writer, key, value } => {
+            let (key, value) = (key.bytes(), value.bytes());
+            Some((writer, BatchOp::Put { key, value }))
+        }
+        Event::Del { writer, key } => Some((writer, BatchOp::Del { key: key.bytes() })),
+        Event::RangeSet {
+            writer,
+            start,
+            end,
+            suffix,
+            value,
+        } => {
+            let (start, end) = (start.bytes(), end.bytes());
+            let (suffix, value) = (suffix.bytes(), value.bytes());
+            Some((
+                writer,
+                BatchOp::RangeSet {
+                    start,
+                    end,
+                    suffix,
+                    value,
+                },
+            ))
+        }
+        Event::RangeUnset {
+            writer,
+            start,
+            end,
+            suffix,
+        } => {
+            let (start, end, suffix) = (start.bytes(), end.bytes(), suffix.bytes());
+            Some((writer, BatchOp::RangeUnset { start, end, suffix }))
+        }
+        Event::RangeDel { writer, start, end } => {
+            let (start, end) = (start.bytes(), end.bytes());
+            Some((writer, BatchOp::RangeDel { start, end }))
+        }
+        _ => None,
+    }
+}
+
+// The options of an iterator, as a line has them.
+fn options(
+    lower: &Option<UserKey>,
+    upper: &Option<UserKey>,
+    mask: &Option<Suffix>,
+) -> Result<IterOptions, NoMemory>
+    ensures { IfOk result (λ o. o ≡ record { lower = lower.now; upper = upper.now; mask = mask.now }) }
+{
+    Ok(IterOptions {
+        lower: copy_bound(lower)?,
+        upper: copy_bound(upper)?,
+        mask: mask.as_ref().map(|suffix| suffix.copy()),
+    })
 }
 
 // The place of the first thing of a name that is live.

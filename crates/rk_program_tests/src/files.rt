@@ -15,13 +15,13 @@ pub(crate) fn refusal(alloc: Global, file: &[u8]) -> Option<(u64, Why)> {
 }
 
 // Files that are refused, each with the line and the cause.
-const BAD_FILES: [(&[u8], u64, Why); 51] = [
+const BAD_FILES: [(&[u8], u64, Why); 52] = [
     (b"put w a\tb", 1, Why::Byte),
     (b"#\x01\niter i\x01", 2, Why::Byte),
     (b"frst\x7f i", 1, Why::Byte),
     (b"frst i", 1, Why::Word),
     (b"Put w a b", 1, Why::Word),
-    (b"rset w a d %- foo\nshape", 2, Why::Word),
+    (b"rset w a d %- foo\nshapes", 2, Why::Word),
     (b"sync", 1, Why::Word),
     (b"flush begin", 1, Why::Word),
     (b"compact all", 1, Why::Word),
@@ -40,6 +40,7 @@ const BAD_FILES: [(&[u8], u64, Why); 51] = [
     (b"runset w a d @5 x", 1, Why::Count),
     (b"rdel w a", 1, Why::Count),
     (b"commit", 1, Why::Count),
+    (b"shape w", 1, Why::Count),
     (b"iter", 1, Why::Count),
     (b"iter i lower", 1, Why::Count),
     (b"iter i at s mask", 1, Why::Count),

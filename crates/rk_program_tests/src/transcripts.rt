@@ -32,7 +32,7 @@ pub(crate) fn ran(
 }
 
 // Files and their transcripts: sets, moves, masks and bounds, and then refusals, snapshots, names and escapes.
-const TOLD: [(&[u8], &[u8]); 17] = [
+const TOLD: [(&[u8], &[u8]); 18] = [
     (b"", b""),
     (b"iter i\nfirst i\nlast i", b"i open at 0\ni end\ni start\n"),
     (TWO_SETS, TWO_SETS_TOLD),
@@ -85,6 +85,10 @@ const TOLD: [(&[u8], &[u8]); 17] = [
         b"s at 0\nt at 0\nw committed 1 to 1\ns released\ni open at 0\nj open at 1\ni closed\nj at a point p\ni open at 0\ni end\n",
     ),
     (
+        b"put w a p\ncommit w\nshape",
+        b"w committed 1 to 1\nshape active 9 frozen 0 l0 0 l1 0 l2 0 l3 0\n",
+    ),
+    (
         b"put w a%20b x%00\ncommit w\niter i\nfirst i",
         b"w committed 1 to 1\ni open at 1\ni at a%20b point x%00\n",
     ),
@@ -111,7 +115,7 @@ fn a_bad_line_is_named_and_nothing_is_written(rt: HostRuntime) -> Result<(), Fai
     let table: [(&[u8], u64, Why); 6] = [
         (b"frst i", 1, Why::Word),
         (b"# x\nnext i", 2, Why::NoName),
-        (b"rset w a d %- foo\nshape", 2, Why::Word),
+        (b"rset w a d %- foo\nshapes", 2, Why::Word),
         (b"iter i\niter i", 2, Why::Taken),
         (b"iter i\nclose i\nfirst i", 3, Why::NoName),
         (b"put w a", 1, Why::Count),

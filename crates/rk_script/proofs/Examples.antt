@@ -3,7 +3,7 @@ use Rattle.std.proofs.Common.{◌≡◌, [], ◌∷◌, Some, None, refl}
 use Rattle.std.specs.Prelude.{Ok, Err, codes}
 use Rattle.rk_script.specs.Words.{escaped, unescaped}
 use Rattle.rk_script.specs.Script.{script}
-use Rattle.rk_script.specs.declared.line.Event.TheVariants.{Put, RangeSet, Commit, Snap, Iter, SeekLt}
+use Rattle.rk_script.specs.declared.line.Event.TheVariants.{Put, RangeSet, Commit, Snap, Shape, Iter, SeekLt}
 use Rattle.rk_script.specs.declared.line.Why.TheVariants.{Word, Count, Name, NoName}
 
 lines_are_read : script (codes "rset w a d %- foo\n\n# x\n  commit  w\nsnap s\niter i at s upper c@5 mask @9\nseeklt i b")
@@ -18,7 +18,13 @@ lines_are_read = refl
 escapes_of_a_line_are_read : script (codes "put w a%20b x%00") ≡ Ok (record { number = 1; event = Put (codes "w") (97 ∷ 32 ∷ 98 ∷ []) (120 ∷ 0 ∷ []) } ∷ [])
 escapes_of_a_line_are_read = refl
 
-an_unknown_word_is_named : script (codes "rset w a d %- foo\nshape") ≡ Err (record { line = 2; why = Word })
+sizes_are_asked_for : script (codes " shape \nshape") ≡ Ok (record { number = 1; event = Shape } ∷ record { number = 2; event = Shape } ∷ [])
+sizes_are_asked_for = refl
+
+a_word_behind_shape_is_named : script (codes "shape w") ≡ Err (record { line = 1; why = Count })
+a_word_behind_shape_is_named = refl
+
+an_unknown_word_is_named : script (codes "rset w a d %- foo\nshapes") ≡ Err (record { line = 2; why = Word })
 an_unknown_word_is_named = refl
 
 a_third_word_of_a_commit_is_named : script (codes "commit w sync") ≡ Err (record { line = 1; why = Word })

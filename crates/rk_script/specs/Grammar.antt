@@ -23,7 +23,7 @@ abbrev pub verbs : List (List ℕ × Verb)
 verbs =
     (codes "put", verb.Put) ∷ (codes "del", verb.Del) ∷ (codes "rset", verb.RangeSet) ∷ (codes "runset", verb.RangeUnset)
     ∷ (codes "rdel", verb.RangeDel) ∷ (codes "commit", verb.Commit) ∷ (codes "snap", verb.Snap) ∷ (codes "release", verb.Release)
-    ∷ iterator_verbs
+    ∷ (codes "shape", verb.Shape) ∷ iterator_verbs
 
 abbrev pub and_then : {A B : Type 0} → (A → Result B Why) → Result A Why → Result B Why
 and_then f (Ok a) = f a
@@ -56,6 +56,10 @@ if_there read (Some word) = do
   Ok (Some value)
 
 -- ---- lines with a fixed number of words behind the first
+
+abbrev pub none : {A : Type 0} → A → List (List ℕ) → Result A Why
+none a [] = Ok a
+none a _ = Err Count
 
 abbrev pub one : {A : Type 0} → (List ℕ → Result A Why) → List (List ℕ) → Result A Why
 one f (a ∷ []) = f a
@@ -209,6 +213,7 @@ line_of verb.RangeDel words = three range_del words
 line_of verb.Commit words = commit words
 line_of verb.Snap words = of_name event.Snap words
 line_of verb.Release words = of_name event.Release words
+line_of verb.Shape words = none event.Shape words
 line_of verb.Iter words = iter words
 line_of verb.First words = of_name event.First words
 line_of verb.Last words = of_name event.Last words

@@ -5,5 +5,6 @@ pub mod Grammar
 pub mod Seen
 pub mod Naming
 pub mod Script
+pub mod Lines
 pub mod Laws
 pub mod Reasons

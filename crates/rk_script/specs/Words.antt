@@ -21,6 +21,9 @@ percent = 37
 abbrev pub pieces : ℕ → List ℕ → List (List ℕ)
 pieces separator bs = slice_split (λ b. b == separator) bs
 
+abbrev pub ends_line : ℕ → Bool
+ends_line b = b == line_end
+
 -- a piece behind the last line end is a line too, or an empty one that is skipped
 abbrev pub lines : List ℕ → List (List ℕ)
 lines file = pieces line_end file

@@ -57,7 +57,7 @@ pub(crate) fn unescape(alloc: Global, word: &[u8]) -> Read<Bytes>
     if is_word(word, b"%-") {
         return Ok(Bytes::from_vec(Vec::new(alloc)));
     }
-    let mut bytes = Vec::new(alloc);
+    let mut bytes = Vec::with_capacity(alloc, word.len())?;
     let mut rest = word;
     while !rest.is_empty() {
         let (byte, after) = first_byte(rest).ok_or(Why::Escape)?;

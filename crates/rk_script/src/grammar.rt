@@ -1,7 +1,8 @@
 // What the words of a line ask for.
 ghost use Rattle.std.specs.Prelude.{map};
-ghost use Rattle.rk_script.specs.Grammar.{event_of, line_of, one_name, two, commit, name_and_key};
+ghost use Rattle.rk_script.specs.Grammar.{event_of, line_of, none, one_name, two, commit, name_and_key};
 ghost use Rattle.rk_script.specs.LineErrors.{ReadsSame};
+ghost use Rattle.rk_script.specs.declared.line.Event.TheVariants as event;
 
 use crate::batch::{del, put, range_del, range_set, range_unset};
 use crate::error::{LineError, Read};
@@ -41,6 +42,7 @@ fn event(alloc: Global, verb: Verb, words: &[&[u8]]) -> Read<Event>
         Verb::Commit => commit(alloc, words),
         Verb::Snap => one_name(alloc, words).map(|name| Event::Snap { name }),
         Verb::Release => one_name(alloc, words).map(|name| Event::Release { name }),
+        Verb::Shape => shape(words),
         Verb::Iter => iter(alloc, words),
         Verb::First => one_name(alloc, words).map(|iter| Event::First { iter }),
         Verb::Last => one_name(alloc, words).map(|iter| Event::Last { iter }),
@@ -49,6 +51,16 @@ fn event(alloc: Global, verb: Verb, words: &[&[u8]]) -> Read<Event>
         Verb::SeekGe => seek(alloc, words).map(|(iter, key)| Event::SeekGe { iter, key }),
         Verb::SeekLt => seek(alloc, words).map(|(iter, key)| Event::SeekLt { iter, key }),
         Verb::Close => one_name(alloc, words).map(|iter| Event::Close { iter }),
+    }
+}
+
+/// A line that is its first word alone, and asks for the sizes of the store.
+fn shape(words: &[&[u8]]) -> Read<Event>
+    ensures { ReadsSame result (none event.Shape (map (λ w. w.now) words.now)) }
+{
+    match words {
+        [] => Ok(Event::Shape),
+        _ => Err(LineError::Bad(Why::Count)),
     }
 }
 

@@ -1,9 +1,10 @@
-//! Command files: lines, words and escapes, and the reading of a whole file.
+//! Command files: lines, words and escapes, and the reading of a file, whole or line after line.
 //!
-//! It stands on rk_key, rk_outside and rk_model. Its main contract is that of `read_script`, which answers
-//! exactly the lines that the bytes of a file spell, or the first line that is not of the grammar and why. The
-//! names that are live are part of the grammar. `push_escaped` prints bytes as one word, and reading that word
-//! gives the bytes back.
+//! It stands on rk_key, rk_outside and rk_model. Its main contract is that of `Lines::next`, a cursor's step: it
+//! answers the next line that the bytes of a file spell, or why it is not of the grammar. `read_script` and
+//! `check_script` are loops over it: the first answers all lines, the second keeps none, and both name the first
+//! line that is not of the grammar and why. The names that are live are part of the grammar. `push_escaped`
+//! prints bytes as one word, and reading that word gives the bytes back.
 #![tactic(auto)]
 
 mod batch;
@@ -14,6 +15,7 @@ mod iter;
 mod keys;
 mod limits;
 mod line;
+mod lines;
 mod named;
 mod names;
 mod read;
@@ -22,5 +24,6 @@ mod words;
 
 pub use escape::{push_escaped, push_escaped_bytes, reads_back_what_is_printed};
 pub use line::{Event, Line, ScriptError, Why};
+pub use lines::Lines;
 pub use named::{Named, find};
-pub use read::read_script;
+pub use read::{check_script, read_script};

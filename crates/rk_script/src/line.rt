@@ -62,6 +62,8 @@ pub enum Event {
     Release {
         name: Bytes,
     },
+    /// Asks for the sizes of the store.
+    Shape,
     /// Opens an iterator, at a snapshot or at the last commit.
     Iter {
         name: Bytes,

@@ -16,6 +16,7 @@ pub(crate) enum Verb {
     Commit,
     Snap,
     Release,
+    Shape,
     Iter,
     First,
     Last,
@@ -46,6 +47,8 @@ pub(crate) fn verb_of(word: &[u8]) -> Option<Verb>
         Some(Verb::Snap)
     } else if is_word(b"release", word) {
         Some(Verb::Release)
+    } else if is_word(b"shape", word) {
+        Some(Verb::Shape)
     } else {
         iterator_verb(word)
     }

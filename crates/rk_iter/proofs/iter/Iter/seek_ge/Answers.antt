@@ -14,4 +14,5 @@ returns c = record {
       let made = c.seek_ge.ensures in
       subst (λ it. Moves it (over c.self.inside.pins.chunks c.self.inside.pins.number c.seek_ge.new.self) (SeekGe c.args.key.now) c.seek_ge.result) c.self.view_is
       (moves_on listed_points listed_spans c.self.inside.pins.chunks c.self.inside.pins.number c.self.inside.inside c.seek_ge.new.self (SeekGe c.args.key.now) c.self.invariant c.bytes-bytes.ensures.is_key c.seek_ge.result made.moves made.reads.cause);
+  keyed = c.bytes-bytes.ensures.is_key;
 }

@@ -1,21 +1,24 @@
-use Rattle.std.proofs.Common.{refl}
-use Rattle.std.proofs.lemmas.Result.{IfOk-weaker}
+use Rattle.std.proofs.Common.{refl, ap, ◌∙◌, ◌++◌}
+use Rattle.std.proofs.lemmas.List.{get_or-set_same}
 use Rattle.rk_program.specs.Asked.{move_of}
-use Rattle.rk_program.proofs.Accepted.{live_called}
-use Rattle.rk_program.proofs.LineLemmas.{iterator_name, iterator_open, move_does, said_stands}
+use Rattle.rk_program.specs.Replies.{lent_text}
+use Rattle.rk_program.specs.declared.session.OpenIterator.{OpenIterator}
+use Rattle.rk_program.proofs.Answered.{OnOk-weaker}
+use Rattle.rk_program.proofs.LineLemmas.{iterator_name, move_does}
 use Rattle.rk_program.proofs.Naming.{IsFirst-of}
 use Rattle.rk_program.proofs.session.Session.step.Goals as goal
 
-pub live_place-i-requires : goal.live_place-i-requires
-live_place-i-requires c = rw c.deref.ensures.value (live_called iterator_name iterator_open c.args.self.now.iterators.items c.args.iter.now c.requires.live)
-
-pub returns : goal.returns
-returns c =
-    let first = IsFirst-of iterator_name c.args.self.now.iterators.items c.deref.result.now c.args.iter.now c.args.iter.now c.live_place-i.result
+pub returns-in-Ok-clause-did : goal.returns-in-Ok-clause-did
+returns-in-Ok-clause-did g c =
+    let its = c.args.self.now.iterators.items in
+    let i = c.live_place-i.result in
+    let x = c.index_mut.result.now in
+    let y : OpenIterator = record { name = x.name; iter = c.make.new.iter } in
+    let first = IsFirst-of iterator_name its c.deref.result.now c.args.iter.now c.args.iter.now i
     c.deref.ensures.value refl c.live_place-i.ensures.within c.live_place-i.ensures.first c.live_place-i.ensures.here in
-    λ s stands. IfOk-weaker c.stands.result _ _
-    (λ text said. move_does c.args.self.now _ c.args.iter.now c.live_place-i.result c.index_mut.result.now _ (move_of c.args.step.now) text.items s stands first
-    c.index_mut.ensures.value refl refl refl refl refl refl c.in_ok-make.ensures.moved
-    (said_stands c.args.iter.now c.bytes.result.now c.args.self.now.iterators.items c.live_place-i.result _ c.index.result.now text.items
-    said c.bytes.ensures c.index.ensures first.within))
+    let read = c.index.ensures ∙ get_or-set_same its i y c.index.result.now first.within in
+    λ s stands. OnOk-weaker c.stands.result _ _
+    (λ told. move_does c.args.self.now _ c.args.iter.now i x y (move_of c.args.step) c.in-Ok.field-0 c.make.result c.bytes.result.now _ _ s stands first c.index_mut.ensures.value
+    refl refl refl refl refl c.in-Ok.is c.make.ensures.moves c.make.ensures.keyed c.bytes.ensures
+    (told ∙ ap (λ k. c.args.self.now.reply.items ++ lent_text c.bytes.result.now k.iter) read))
     c.stands.ensures

@@ -1,0 +1,4 @@
+pub mod Agreement
+pub mod Standing
+pub mod Joining
+pub mod Answers
