@@ -1,0 +1,38 @@
+// Stores, and commits of one put.
+use rk_batch::Batch;
+use rk_core::{Core, Numbers};
+use rk_outside::StoreError;
+use std::alloc::Global;
+use std::test::Fail;
+
+/// A new store over no vault.
+pub(crate) fn opened(alloc: Global) -> Result<Core<()>, StoreError> {
+    match Core::open(alloc, ()) {
+        Ok(core) => Ok(core),
+        Err(refused) => Err(refused.error),
+    }
+}
+
+/// A batch that puts a value of so many bytes on the key `a`. It has 8 bytes and those of the value.
+pub(crate) fn put_of(alloc: Global, len: usize) -> Result<Batch, Fail> {
+    let mut value = Vec::new(alloc);
+    for _ in 0..len {
+        value.push(b'v')?;
+    }
+    let mut batch = Batch::new(alloc)?;
+    batch.set(b"a", &value)?;
+    Ok(batch)
+}
+
+/// Commits a batch so often, and answers the last numbers.
+pub(crate) fn commit_often(
+    core: &mut Core<()>,
+    batch: &Batch,
+    count: u64,
+) -> Result<Option<Numbers>, StoreError> {
+    let mut numbers = None;
+    for _ in 0..count {
+        numbers = Some(core.commit(batch, false)?);
+    }
+    Ok(numbers)
+}
