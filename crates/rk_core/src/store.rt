@@ -105,9 +105,9 @@ impl<V> Core<V> {
         let size = batch.size();
         let entries = numbered(self.alloc, batch.ops(), self.last)?;
         if self.has_room(size) {
-            self.active = self.active.grown(&entries, size)?;
+            self.active = self.active.grown_with(entries, size)?;
         } else {
-            let active = Memtable::new(self.alloc)?.grown(&entries, size)?;
+            let active = Memtable::new(self.alloc)?.grown_with(entries, size)?;
             self.frozen = mem::replace(&mut self.active, active);
         }
         let first = self.last + 1;

@@ -68,14 +68,6 @@ keyed_append xs ys one two = rw (list_all-append (λ e. has_keys e.op) xs ys, on
 pub keyed_permuted : (xs ys : List Entry) → IsPermutation xs ys → IsTrue (are_keyed xs) → IsTrue (are_keyed ys)
 keyed_permuted xs ys same keyed = list_all-from_AllPass (λ e. has_keys e.op) ys (All-permutation (λ e. has_keys e.op ≡ true) xs ys same (AllPass-from_list_all (λ e. has_keys e.op) xs keyed))
 
-pub sorted_out : (es points : List Entry) → NumbersRise es → IsTrue (are_points points) → IsPermutation (points_of es) points → IsTrue (are_keyed (points_of es)) → IsTrue (are_keyed (ranges_of es)) → AreSortedOut points (ranges_of es)
-sorted_out es points rise order same keyed keyed' = record {
-  in_order = order;
-  no_points = no_points_in es;
-  differ = some_differ (λ e. not (is_point e.op)) es (rising_differ es rise);
-  keyed = keyed_append points (ranges_of es) (keyed_permuted (points_of es) points same keyed) keyed';
-}
-
 pub chunk_is : (es points : List Entry) → IsPermutation (points_of es) points → IsTrue (are_points points) → IsChunkOf es (points ++ ranges_of es)
 chunk_is es points same order =
     let p : points_of (points ++ ranges_of es) ≡ points = points_are points (ranges_of es) order (no_points_in es) in
@@ -85,6 +77,14 @@ chunk_is es points same order =
       arranged = record { parts = sym (λ i. p i ++ r i); in_order = rw p order };
       ranges = r;
     }
+
+pub sorted_out : (es points : List Entry) → NumbersRise es → IsPermutation (points_of es) points → IsTrue (are_points points) → IsTrue (are_keyed es) → AreSortedOut points (ranges_of es)
+sorted_out es points rise same order keyed = record {
+  in_order = order;
+  no_points = no_points_in es;
+  differ = some_differ (λ e. not (is_point e.op)) es (rising_differ es rise);
+  keyed = keyed_permuted es (points ++ ranges_of es) (chunk_is es points same order).same keyed;
+}
 
 -- two chunks, of which the second is newer
 filter_newer : (t u : Entry → Bool) (old new : List Entry) → AreNewer old new → AreNewer (filter t old) (filter u new)

@@ -10,7 +10,8 @@ ghost use Rattle.rk_mem.specs.SortedOut.{AreSortedOut};
 
 use crate::fragments::{Fragments, Ranges, fragments_of};
 use crate::merge::{joined, merged};
-use crate::order::{copy_points, copy_ranges, sort};
+use crate::order::{sort, split};
+use crate::shared::Shared;
 use rk_cell::Cell;
 use rk_model::Entry;
 use rk_outside::NoMemory;
@@ -22,7 +23,7 @@ use std::sync::Arc;
 /// the range entries are cut into are kept beside them, once they were asked for.
 #[derive(Debug, Drop)]
 pub struct Chunk {
-    points: Vec<Entry>,
+    points: Vec<Shared>,
     ranges: Cell<Ranges, Fragments>,
 }
 
@@ -39,18 +40,17 @@ impl Model for Chunk {
 }
 
 impl Chunk {
-    /// A chunk of these entries.
-    pub(crate) fn new(alloc: Global, entries: &[Entry]) -> Result<Chunk, NoMemory>
-        requires { NumbersRise entries.now }
-        ensures { IfOk result (λ chunk. IsChunkOf entries.now chunk) }
+    /// A chunk of these entries, which are moved into it.
+    pub(crate) fn new(alloc: Global, entries: Vec<Entry>) -> Result<Chunk, NoMemory>
+        requires { NumbersRise entries.items }
+        ensures { IfOk result (λ chunk. IsChunkOf entries.items chunk) }
     {
-        let mut points = copy_points(alloc, entries)?;
-        let ranges = copy_ranges(alloc, entries)?;
+        let (mut points, ranges) = split(alloc, entries)?;
         sort(&mut points)?;
         Chunk::of(alloc, points, ranges)
     }
 
-    /// A chunk of the entries of two.
+    /// A chunk of the entries of two. It shares their points, and has copies of their range entries.
     pub(crate) fn merged(alloc: Global, older: &Chunk, newer: &Chunk) -> Result<Chunk, NoMemory>
         requires { AreNewer older.now newer.now }
         ensures { IfOk result (λ chunk. IsChunkOf (older.now ++ newer.now) chunk) }
@@ -61,7 +61,7 @@ impl Chunk {
     }
 
     /// A chunk of these points and range entries.
-    fn of(alloc: Global, points: Vec<Entry>, ranges: Vec<Entry>) -> Result<Chunk, NoMemory>
+    fn of(alloc: Global, points: Vec<Shared>, ranges: Vec<Entry>) -> Result<Chunk, NoMemory>
         requires { AreSortedOut points.items ranges.items }
         ensures { IfOk result (λ chunk. chunk ≡ points.items ++ ranges.items) }
     {
@@ -77,7 +77,7 @@ impl Chunk {
     }
 
     /// Lends the points, in order.
-    pub(crate) fn points(&self) -> &[Entry]
+    pub(crate) fn points(&self) -> &[Shared]
         ensures value { result.now ≡ points_of self.now }
         ensures in_order { IsTrue (are_points (points_of self.now)) }
         ensures keyed { IsTrue (are_keyed self.now) }

@@ -5,6 +5,7 @@ ghost use Rattle.rk_mem.specs.Chunks.{NumbersRise, AreNewer};
 ghost use Rattle.rk_mem.specs.Memory.{nothing, IsGrown, AreChunksOf};
 
 use crate::Chunk;
+use crate::merge::copied;
 use crate::tower::piled;
 use rk_model::Entry;
 use rk_outside::NoMemory;
@@ -57,19 +58,37 @@ impl Memtable {
         })
     }
 
-    /// A memtable with these newer entries too, and with so many bytes more. They come into a chunk of their own.
-    /// While the next older chunk has fewer than twice as many entries, the two become one. All other chunks are
-    /// shared with this memtable, which stays as it was, as do the chunks that were pinned.
+    /// A memtable with copies of these newer entries too, and with so many bytes more. All else is as in
+    /// [`Memtable::grown_with`].
     ///
     /// # Errors
     ///
-    /// `NoMemory` where a chunk or the list of chunks finds no memory.
+    /// `NoMemory` where a copy, a chunk or the list of chunks finds no memory.
     pub fn grown(&self, entries: &[Entry], bytes: u64) -> Result<Memtable, NoMemory>
         requires some { 0 < length entries.now }
         requires rise { NumbersRise entries.now }
         requires newer { AreNewer self.now.entries entries.now }
         requires fits { self.now.bytes + bytes < 2 ^ 64 }
         ensures { IfOk result (λ m. IsGrown self.now entries.now bytes m) }
+    {
+        let entries = copied(*self.chunks.allocator(), entries)?;
+        self.grown_with(entries, bytes)
+    }
+
+    /// A memtable with these newer entries too, and with so many bytes more. They are moved into a chunk of their
+    /// own. While the next older chunk has fewer than twice as many entries, the two become one: it shares the
+    /// points of both, and has copies of their range entries. All other chunks are shared with this memtable, which
+    /// stays as it was, as do the chunks that were pinned.
+    ///
+    /// # Errors
+    ///
+    /// `NoMemory` where a chunk or the list of chunks finds no memory. The entries are gone then.
+    pub fn grown_with(&self, entries: Vec<Entry>, bytes: u64) -> Result<Memtable, NoMemory>
+        requires some { 0 < length entries.items }
+        requires rise { NumbersRise entries.items }
+        requires newer { AreNewer self.now.entries entries.items }
+        requires fits { self.now.bytes + bytes < 2 ^ 64 }
+        ensures { IfOk result (λ m. IsGrown self.now entries.items bytes m) }
     {
         let alloc = *self.chunks.allocator();
         let newest = Chunk::new(alloc, entries)?;

@@ -8,6 +8,7 @@ ghost use Rattle.rk_model.specs.ListingLaws.{of_sound, listed-told, listed-rise,
 ghost use Rattle.rk_mem.specs.Chunks.{points_of};
 
 use crate::Chunk;
+use crate::shared::Shared;
 use rk_key::UserKey;
 use rk_model::{Cut, Entry, Lends, Listed, Sorted, Source};
 use rk_outside::{Counting, NoMemory, SourceError};
@@ -33,11 +34,11 @@ impl Model for Points {
 }
 
 impl Lends for Points {
-    type Item = Entry;
+    type Item = Shared;
 
     ghost items = { λ es. es };
 
-    fn items(&self) -> &[Entry] {
+    fn items(&self) -> &[Shared] {
         self.chunk.points()
     }
 }
@@ -108,6 +109,6 @@ impl<R: Counting> Source<R> for ChunkPoints {
     }
 
     fn here(&self) -> Option<&Entry> {
-        Source::<R>::here(&self.listed)
+        Some(Source::<R>::here(&self.listed)?.entry())
     }
 }

@@ -19,30 +19,30 @@ use Rattle.rk_core.proofs.store.Core.add.Goals as goal
 some_numbered : (n : ℕ) (ops : List Op) (es : List Entry) → es ≡ numbered n ops → 1 ≤ length ops → 0 < length es
 some_numbered n ops es is some = omega (arith, ap length is, numbered_length n ops, some)
 
-pub grown-requires-clause-some : goal.grown-requires-clause-some
-grown-requires-clause-some g c =
-    some_numbered (c.self.inside.last + 1) c.args.batch.now c.deref.result.now (c.deref.ensures.value ∙ c.in_ok-entries.ensures.entries ∙ ap (numbered (c.self.inside.last + 1)) c.ops.ensures) c.requires.some
+pub grown_with-requires-clause-some : goal.grown_with-requires-clause-some
+grown_with-requires-clause-some g c =
+    some_numbered (c.self.inside.last + 1) c.args.batch.now c.in_ok-entries.entries.items (c.in_ok-entries.ensures.entries ∙ ap (numbered (c.self.inside.last + 1)) c.ops.ensures) c.requires.some
 
-pub grown-requires-clause-rise : goal.grown-requires-clause-rise
-grown-requires-clause-rise g c =
-    subst NumbersRise (sym (c.deref.ensures.value ∙ c.in_ok-entries.ensures.entries)) (numbered_rise (c.self.inside.last + 1) c.ops.result.now)
+pub grown_with-requires-clause-rise : goal.grown_with-requires-clause-rise
+grown_with-requires-clause-rise g c =
+    subst NumbersRise (sym c.in_ok-entries.ensures.entries) (numbered_rise (c.self.inside.last + 1) c.ops.result.now)
 
-pub grown-requires-clause-newer : goal.grown-requires-clause-newer
-grown-requires-clause-newer g c =
+pub grown_with-requires-clause-newer : goal.grown_with-requires-clause-newer
+grown_with-requires-clause-newer g c =
     let fields = c.self.inside in
     let old : CoreSeen g.row.V.Denot = record { active = fields.active; frozen = fields.frozen; last = fields.last; live = fields.live.items; vault = fields.vault } in
-    subst (AreNewer fields.active.entries) (sym (c.deref.ensures.value ∙ c.in_ok-entries.ensures.entries)) (numbered_newer old c.ops.result.now c.self.invariant)
+    subst (AreNewer fields.active.entries) (sym c.in_ok-entries.ensures.entries) (numbered_newer old c.ops.result.now c.self.invariant)
 
-pub grown-requires-else-has_room-clause-some : goal.grown-requires-else-has_room-clause-some
-grown-requires-else-has_room-clause-some g c =
-    some_numbered (c.self.inside.last + 1) c.args.batch.now c.deref-else-has_room.result.now (c.deref-else-has_room.ensures.value ∙ c.in_ok-entries.ensures.entries ∙ ap (numbered (c.self.inside.last + 1)) c.ops.ensures) c.requires.some
+pub grown_with-requires-else-has_room-clause-some : goal.grown_with-requires-else-has_room-clause-some
+grown_with-requires-else-has_room-clause-some g c =
+    some_numbered (c.self.inside.last + 1) c.args.batch.now c.in_ok-entries.entries.items (c.in_ok-entries.ensures.entries ∙ ap (numbered (c.self.inside.last + 1)) c.ops.ensures) c.requires.some
 
-pub grown-requires-else-has_room-clause-rise : goal.grown-requires-else-has_room-clause-rise
-grown-requires-else-has_room-clause-rise g c =
-    subst NumbersRise (sym (c.deref-else-has_room.ensures.value ∙ c.in_ok-entries.ensures.entries)) (numbered_rise (c.self.inside.last + 1) c.ops.result.now)
+pub grown_with-requires-else-has_room-clause-rise : goal.grown_with-requires-else-has_room-clause-rise
+grown_with-requires-else-has_room-clause-rise g c =
+    subst NumbersRise (sym c.in_ok-entries.ensures.entries) (numbered_rise (c.self.inside.last + 1) c.ops.result.now)
 
 -- the operations have joined the memtables, whether there was room or not
-has_joined : (g : _) (c : goal.After-drop-entries-2 g) →
+has_joined : (g : _) (c : goal.After-self-1 g) →
     let fields = c.self.inside in
     let now = c.if-has_room.self-inside in
     HasJoined
@@ -61,13 +61,13 @@ has_joined g c =
     elim c.if-has_room.branch [
       | then-has_room+in_ok-self-inside w ↦
           let grown : IsGrown fields.active (numbered (fields.last + 1) ops) (batch_size ops) w.in_ok-self-inside.field-0 =
-          grown_by fields.active w.in_ok-self-inside.field-0 w.deref.result.now (numbered (fields.last + 1) ops) c.size-size.result (batch_size ops) (w.deref.ensures.value ∙ numbers) c.size-size.ensures w.in_ok-self-inside.ensures in
+          grown_by fields.active w.in_ok-self-inside.field-0 es (numbered (fields.last + 1) ops) c.size-size.result (batch_size ops) numbers c.size-size.ensures w.in_ok-self-inside.ensures in
           rw (w.self-inside-is, c.count.ensures) (joins_active old ops keyed w.in_ok-self-inside.field-0 (room ∙ w.if-has_room.true) grown)
       | else-has_room+in_ok-new+in_ok-active w ↦
-          let first : IsGrown nothing w.deref-else-has_room.result.now c.size-size.result w.in_ok-active.active =
-          subst (λ (before : Memory). IsGrown before w.deref-else-has_room.result.now c.size-size.result w.in_ok-active.active) w.in_ok-new.ensures w.in_ok-active.ensures in
+          let first : IsGrown nothing es c.size-size.result w.in_ok-active.active =
+          subst (λ (before : Memory). IsGrown before es c.size-size.result w.in_ok-active.active) w.in_ok-new.ensures w.in_ok-active.ensures in
           let grown : IsGrown nothing (numbered (fields.last + 1) ops) (batch_size ops) w.in_ok-active.active =
-          grown_by nothing w.in_ok-active.active w.deref-else-has_room.result.now (numbered (fields.last + 1) ops) c.size-size.result (batch_size ops) (w.deref-else-has_room.ensures.value ∙ numbers) c.size-size.ensures first in
+          grown_by nothing w.in_ok-active.active es (numbered (fields.last + 1) ops) c.size-size.result (batch_size ops) numbers c.size-size.ensures first in
           rw (w.self-inside-is, w.replace.ensures.value, w.replace.ensures.after, c.count.ensures) (joins_new old ops keyed w.in_ok-active.active (room ∙ w.if-has_room.false) grown)
     ]
 
