@@ -1,7 +1,7 @@
 mod Examples
 pub mod Texts
-pub mod Escapes
 pub mod Naming
+pub mod Escapes
 pub mod KeyTests
 pub mod Cutting
 pub mod Reading

@@ -1,5 +1,5 @@
 -- Printed bytes are one word, and are read as the same bytes.
-use Rattle.std.proofs.Common.{◌≡◌, ℕ, ◌+◌, ◌*◌, ◌/◌, ◌%◌, ◌==◌, ◌<◌, ◌≤◌, Bool, true, false, not, cond, ◌&&◌, List, [], ◌∷◌, ◌++◌, All, Some, None, option_map, option_and_then, filter, refl, sym, ap, ◌∙◌, arith}
+use Rattle.std.proofs.Common.{◌≡◌, ℕ, ◌+◌, ◌*◌, ◌/◌, ◌%◌, ◌==◌, ◌<◌, ◌≤◌, Bool, true, false, not, cond, ◌&&◌, List, [], ◌∷◌, ◌++◌, All, Some, option_map, option_and_then, filter, refl, sym, ap, ◌∙◌, arith}
 use Rattle.std.specs.Prelude.{codes}
 use Rattle.std.specs.List.{list_all}
 use Rattle.std.proofs.lemmas.Bool.Decides.{nat_tests}
@@ -8,6 +8,7 @@ use Rattle.std.proofs.lemmas.List.Splits.{slice_split_none}
 use Rattle.std.proofs.lemmas.Option.{none-some}
 use Rattle.rk_model.specs.Lists.{none_of}
 use Rattle.rk_model.specs.Spans.{same_bytes}
+use Rattle.rk_script.proofs.Escapes.{stands_for_itself}
 use Rattle.rk_script.proofs.Texts.{same_bytes-Decides}
 use Rattle.rk_script.specs.Words.{space, percent, words, is_printable, is_plain, hex_digit, hex_value, hex_byte, byte_before, escaped_byte, escaped_bytes, escaped, unescaped, unescaped_bytes}
 use Rattle.rk_script.specs.Laws.{IsReadBack}
@@ -43,13 +44,6 @@ two_digits b high low h l same =
     ap (option_and_then (λ x. option_map (λ y. 16 * x + y) (hex_value (hex_digit low)))) (digit_is_read high h) ∙ ap (option_map (λ y. 16 * high + y)) (digit_is_read low l) ∙ ap Some same
 
 -- ---- one byte
-
--- a byte other than '%' stands for itself
-stands_for_itself : (b : ℕ) (rest : List ℕ) → (b == percent) ≡ false → unescaped_bytes (b ∷ rest) ≡ byte_before (Some b) (unescaped_bytes rest)
-stands_for_itself b [] other = ap (λ t. cond t None (Some (b ∷ []))) other
-stands_for_itself b (c ∷ []) other = ap (λ t. cond t None (byte_before (Some b) (unescaped_bytes (c ∷ [])))) other
-stands_for_itself b (c ∷ d ∷ rest) other =
-    ap (λ t. cond t (byte_before (hex_byte c d) (unescaped_bytes rest)) (byte_before (Some b) (unescaped_bytes (c ∷ d ∷ rest)))) other
 
 abbrev printed_byte : (t : Bool) → ℕ → List ℕ
 printed_byte t b = cond t (b ∷ []) (percent ∷ hex_digit (b / 16) ∷ hex_digit (b % 16) ∷ [])

@@ -6,5 +6,6 @@ pub mod Seen
 pub mod Naming
 pub mod Script
 pub mod Lines
+pub mod Asked
 pub mod Laws
 pub mod Reasons

@@ -1,15 +1,18 @@
 // Words for bytes.
-ghost use Rattle.std.specs.Prelude.{◌≡◌, ◌<◌, ◌++◌, take, OnOk, OnErr, IfSome, length, vec_len, option_map, option_and_then};
-ghost use Rattle.rk_script.specs.Words.{hex_digit, hex_value, hex_byte, is_plain, escaped_byte, escaped_bytes, escaped, unescaped_bytes, byte_before};
+ghost use Rattle.std.specs.Prelude.{◌≡◌, ◌<◌, ◌++◌, ◌==◌, true, false, take, Some, None, IfOk, OnOk, OnErr, IfSome, IfNone, is_some, length, vec_len};
+ghost use Rattle.std.specs.List.{list_any};
+ghost use Rattle.rk_model.specs.Lists.{none_of};
+ghost use Rattle.rk_script.specs.Words.{hex_digit, hex_value, hex_byte, percent, is_plain, escaped_byte, escaped_bytes, escaped, unescaped, unescaped_bytes, byte_before};
 ghost use Rattle.rk_script.specs.Grammar.{bytes_of};
 ghost use Rattle.rk_script.specs.LineErrors.{ReadsSame};
 ghost use Rattle.rk_script.specs.Laws.{ReadsBackWhatIsPrinted};
 
 use crate::Why;
-use crate::error::Read;
+use crate::error::{LineError, Read};
 use crate::words::is_word;
 use rk_outside::{Bytes, NoMemory};
 use std::alloc::{AllocError, Global};
+use std::marker::Model;
 
 /// The digit of a number below 16.
 fn hex_digit(n: u8) -> u8
@@ -50,17 +53,94 @@ pub fn reads_back_what_is_printed()
     ensures { ReadsBackWhatIsPrinted }
 {}
 
+/// A word that stands for bytes, as it stands in the file. Contracts see the bytes.
+#[derive(Debug, Drop)]
+pub(crate) struct Escaped<'a> {
+    word: &'a [u8],
+}
+
+impl<'a> Model for Escaped<'a> {
+    ghost use Rattle.std.specs.Prelude.{◌≡◌, List, [], ℕ, true, is_some};
+    ghost use Rattle.std.specs.Option.{unwrap_or};
+    ghost use Rattle.rk_script.specs.Words.{unescaped};
+
+    ghost Value = { List ℕ };
+
+    ghost view = { λ e. unwrap_or (unescaped e.word.now) [] };
+
+    ghost invariant = { λ e. is_some (unescaped e.word.now) ≡ true };
+}
+
+impl<'a> Escaped<'a> {
+    /// The word, where it stands for bytes.
+    pub(crate) fn read(word: &'a [u8]) -> Read<Escaped<'a>>
+        ensures { ReadsSame result (bytes_of word.now) }
+    {
+        if is_escaped(word) {
+            Ok(Escaped { word })
+        } else {
+            Err(LineError::Bad(Why::Escape))
+        }
+    }
+
+    /// The bytes, where the word is they themselves.
+    pub(crate) fn plain(&self) -> Option<&'a [u8]>
+        ensures { IfSome result (λ bytes. bytes.now ≡ self.now) }
+    {
+        if has_percent(self.word) {
+            None
+        } else {
+            Some(self.word)
+        }
+    }
+
+    /// The bytes that the word stands for.
+    pub(crate) fn decode(&self, alloc: Global) -> Result<Bytes, NoMemory>
+        ensures { IfOk result (λ bytes. bytes ≡ self.now) }
+    {
+        match self.plain() {
+            Some(bytes) => Bytes::from_slice(alloc, bytes),
+            None => unescape(alloc, self.word),
+        }
+    }
+}
+
+/// Whether a word stands for bytes.
+fn is_escaped(word: &[u8]) -> bool
+    ensures { result ≡ is_some (unescaped word.now) }
+{
+    is_word(word, b"%-") || are_escapes_whole(word)
+}
+
+/// Whether each `%` begins an escape.
+fn are_escapes_whole(word: &[u8]) -> bool
+    ensures { result ≡ is_some (unescaped_bytes word.now) }
+{
+    let mut rest = word;
+    while let Some((_, after)) = first_byte(rest) {
+        rest = after;
+    }
+    rest.is_empty()
+}
+
+/// Whether a word may stand for other bytes than its own.
+fn has_percent(word: &[u8]) -> bool
+    ensures { result ≡ list_any (λ b. b == percent) word.now }
+{
+    word.iter().any(|byte| *byte == b'%')
+}
+
 /// The bytes that a word stands for.
-pub(crate) fn unescape(alloc: Global, word: &[u8]) -> Read<Bytes>
-    ensures { ReadsSame result (bytes_of word.now) }
+fn unescape(alloc: Global, word: &[u8]) -> Result<Bytes, NoMemory>
+    requires { is_some (unescaped word.now) ≡ true }
+    ensures { IfOk result (λ bytes. unescaped word.now ≡ Some bytes) }
 {
     if is_word(word, b"%-") {
         return Ok(Bytes::from_vec(Vec::new(alloc)));
     }
     let mut bytes = Vec::with_capacity(alloc, word.len())?;
     let mut rest = word;
-    while !rest.is_empty() {
-        let (byte, after) = first_byte(rest).ok_or(Why::Escape)?;
+    while let Some((byte, after)) = first_byte(rest) {
         bytes.push(byte)?;
         rest = after;
     }
@@ -69,9 +149,9 @@ pub(crate) fn unescape(alloc: Global, word: &[u8]) -> Read<Bytes>
 
 /// The byte that a word begins with, and what stands behind it.
 fn first_byte(word: &[u8]) -> Option<(u8, &[u8])>
-    requires { 0 < length word.now }
-    ensures value { unescaped_bytes word.now ≡ byte_before (option_map (λ r. r.0) result) (option_and_then (λ r. unescaped_bytes r.1.now) result) }
+    ensures first { IfSome result (λ r. unescaped_bytes word.now ≡ byte_before (Some r.0) (unescaped_bytes r.1.now)) }
     ensures shorter { IfSome result (λ r. length r.1.now < length word.now) }
+    ensures none { IfNone result (none_of word.now ≡ false → unescaped_bytes word.now ≡ None) }
 {
     match word {
         [b'%', high, low, after @ ..] => Some((hex_byte(*high, *low)?, after)),

@@ -1,17 +1,18 @@
 // The line that opens an iterator.
 ghost use Rattle.std.specs.Prelude.{map};
 ghost use Rattle.std.specs.Option.{option_copied};
-ghost use Rattle.rk_script.specs.Grammar.{iter, opened, with_bounds, option_of, options_of, if_there, name_of, bytes_of, key_of, mask_of};
+ghost use Rattle.rk_script.specs.Asked.{event_asked};
+ghost use Rattle.rk_script.specs.Grammar.{iter, opened, option_of, options_of, if_there, name_of, bytes_of, key_of, mask_of};
 ghost use Rattle.rk_script.specs.LineErrors.{ReadsSame, ReadsAs};
 ghost use Rattle.rk_script.specs.Seen.{words_of};
 
+use crate::Why;
+use crate::asked::Asked;
 use crate::error::{LineError, Read};
-use crate::escape::unescape;
-use crate::keys::{key_of, mask_of};
+use crate::escape::Escaped;
+use crate::keys::{key_in, mask_in};
 use crate::words::{is_word, name_of};
-use crate::{Event, Why};
 use rk_key::{Suffix, UserKey};
-use rk_outside::Bytes;
 use std::alloc::Global;
 
 /// The words behind the options.
@@ -24,8 +25,8 @@ pub(crate) struct Options<'a> {
 }
 
 /// An iterator, and its options.
-pub(crate) fn iter(alloc: Global, words: &[&[u8]]) -> Read<Event>
-    ensures { ReadsSame result (iter (map (λ w. w.now) words.now)) }
+pub(crate) fn iter<'a>(alloc: Global, words: &[&'a [u8]]) -> Read<Asked<'a>>
+    ensures { ReadsAs event_asked result (iter (map (λ w. w.now) words.now)) }
 {
     match words {
         [name, words @ ..] => opened(alloc, name, options_of(words)?),
@@ -69,32 +70,18 @@ fn option_of<'a, 'b>(
 }
 
 /// An iterator with these options. Names are read first, and then escapes.
-fn opened(alloc: Global, name: &[u8], options: Options<'_>) -> Read<Event>
-    ensures { ReadsSame result (opened name.now (words_of options.entry)) }
+fn opened<'a>(alloc: Global, name: &'a [u8], options: Options<'a>) -> Read<Asked<'a>>
+    ensures { ReadsAs event_asked result (opened name.now (words_of options.entry)) }
 {
-    let name = name_of(alloc, name)?;
-    let at = name_if_there(alloc, options.at)?;
-    let lower = unescape_if_there(alloc, options.lower)?;
-    let upper = unescape_if_there(alloc, options.upper)?;
-    let mask = unescape_if_there(alloc, options.mask)?;
-    with_bounds(alloc, name, at, lower, upper, mask)
-}
-
-/// An iterator with these bounds and this mask.
-fn with_bounds(
-    alloc: Global,
-    name: Bytes,
-    at: Option<Bytes>,
-    lower: Option<Bytes>,
-    upper: Option<Bytes>,
-    mask: Option<Bytes>,
-) -> Read<Event>
-    ensures { ReadsSame result (with_bounds name at lower upper mask) }
-{
+    let name = name_of(name)?;
+    let at = name_if_there(options.at)?;
+    let lower = escaped_if_there(options.lower)?;
+    let upper = escaped_if_there(options.upper)?;
+    let mask = escaped_if_there(options.mask)?;
     let lower = key_if_there(alloc, lower)?;
     let upper = key_if_there(alloc, upper)?;
     let mask = mask_if_there(alloc, mask)?;
-    Ok(Event::Iter {
+    Ok(Asked::Iter {
         name,
         at,
         lower,
@@ -103,38 +90,38 @@ fn with_bounds(
     })
 }
 
-fn name_if_there(alloc: Global, word: Option<&[u8]>) -> Read<Option<Bytes>>
-    ensures { ReadsSame result (if_there name_of (option_copied word.entry)) }
+fn name_if_there(word: Option<&[u8]>) -> Read<Option<&[u8]>>
+    ensures { ReadsAs option_copied result (if_there name_of (option_copied word.entry)) }
 {
     match word {
-        Some(word) => Ok(Some(name_of(alloc, word)?)),
+        Some(word) => Ok(Some(name_of(word)?)),
         None => Ok(None),
     }
 }
 
-fn unescape_if_there(alloc: Global, word: Option<&[u8]>) -> Read<Option<Bytes>>
+fn escaped_if_there(word: Option<&[u8]>) -> Read<Option<Escaped<'_>>>
     ensures { ReadsSame result (if_there bytes_of (option_copied word.entry)) }
 {
     match word {
-        Some(word) => Ok(Some(unescape(alloc, word)?)),
+        Some(word) => Ok(Some(Escaped::read(word)?)),
         None => Ok(None),
     }
 }
 
-fn key_if_there(alloc: Global, bytes: Option<Bytes>) -> Read<Option<UserKey>>
-    ensures { ReadsSame result (if_there key_of bytes) }
+fn key_if_there(alloc: Global, word: Option<Escaped<'_>>) -> Read<Option<UserKey>>
+    ensures { ReadsSame result (if_there key_of word.entry) }
 {
-    match bytes {
-        Some(bytes) => Ok(Some(key_of(alloc, bytes.bytes())?)),
+    match word {
+        Some(word) => Ok(Some(key_in(alloc, &word)?)),
         None => Ok(None),
     }
 }
 
-fn mask_if_there(alloc: Global, bytes: Option<Bytes>) -> Read<Option<Suffix>>
-    ensures { ReadsSame result (if_there mask_of bytes) }
+fn mask_if_there(alloc: Global, word: Option<Escaped<'_>>) -> Read<Option<Suffix>>
+    ensures { ReadsSame result (if_there mask_of word.entry) }
 {
-    match bytes {
-        Some(bytes) => Ok(Some(mask_of(alloc, bytes.bytes())?)),
+    match word {
+        Some(word) => Ok(Some(mask_in(alloc, &word)?)),
         None => Ok(None),
     }
 }

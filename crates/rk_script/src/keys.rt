@@ -6,11 +6,32 @@ ghost use Rattle.rk_script.specs.LineErrors.{ReadsSame};
 
 use crate::Why;
 use crate::error::{LineError, Read};
+use crate::escape::Escaped;
 use rk_key::{KeyError, Suffix, UserKey, read_key, read_suffix};
 use std::alloc::Global;
 
+/// The key that a word stands for.
+pub(crate) fn key_in(alloc: Global, word: &Escaped<'_>) -> Read<UserKey>
+    ensures { ReadsSame result (key_of word.now) }
+{
+    match word.plain() {
+        Some(bytes) => key_of(alloc, bytes),
+        None => key_of(alloc, word.decode(alloc)?.bytes()),
+    }
+}
+
+/// The suffix that a word stands for, which is not empty.
+pub(crate) fn mask_in(alloc: Global, word: &Escaped<'_>) -> Read<Suffix>
+    ensures { ReadsSame result (mask_of word.now) }
+{
+    match word.plain() {
+        Some(bytes) => mask_of(alloc, bytes),
+        None => mask_of(alloc, word.decode(alloc)?.bytes()),
+    }
+}
+
 /// The key that the bytes are.
-pub(crate) fn key_of(alloc: Global, bytes: &[u8]) -> Read<UserKey>
+fn key_of(alloc: Global, bytes: &[u8]) -> Read<UserKey>
     ensures { ReadsSame result (key_of bytes.now) }
 {
     match read_key(alloc, bytes) {
@@ -21,7 +42,7 @@ pub(crate) fn key_of(alloc: Global, bytes: &[u8]) -> Read<UserKey>
 }
 
 /// The suffix that the bytes are, which is not empty.
-pub(crate) fn mask_of(alloc: Global, bytes: &[u8]) -> Read<Suffix>
+fn mask_of(alloc: Global, bytes: &[u8]) -> Read<Suffix>
     ensures { ReadsSame result (mask_of bytes.now) }
 {
     if bytes.is_empty() {

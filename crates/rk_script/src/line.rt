@@ -1,8 +1,4 @@
 // The lines of a command file, and why a file is refused.
-ghost use Rattle.std.specs.Prelude.{◌≡◌};
-ghost use Rattle.std.specs.Option.{option_copied};
-ghost use Rattle.rk_script.specs.Script.{writer_of};
-
 use rk_key::{Suffix, UserKey};
 use rk_outside::Bytes;
 use std::fmt;
@@ -102,23 +98,6 @@ pub enum Event {
     Close {
         iter: Bytes,
     },
-}
-
-impl Event {
-    /// The writer whose batch a line adds to or commits.
-    pub(crate) fn writer(&self) -> Option<&Bytes>
-        ensures { option_copied result ≡ writer_of self.now }
-    {
-        match self {
-            Event::Put { writer, .. }
-            | Event::Del { writer, .. }
-            | Event::RangeSet { writer, .. }
-            | Event::RangeUnset { writer, .. }
-            | Event::RangeDel { writer, .. }
-            | Event::Commit { writer } => Some(writer),
-            _ => None,
-        }
-    }
 }
 
 /// Why a line is not of the grammar. Of several causes the first in this order is named.

@@ -1,16 +1,18 @@
 // The lines of a file, one after the other.
 ghost use Rattle.std.specs.Prelude.{◌≡◌, ◌<◌, length, position, IfOk, IfSome};
 ghost use Rattle.std.specs.Option.{option_copied};
-ghost use Rattle.rk_script.specs.LineErrors.{ReadsSame};
+ghost use Rattle.rk_script.specs.Asked.{event_asked, IsNextAsked};
+ghost use Rattle.rk_script.specs.LineErrors.{ReadsAs};
 ghost use Rattle.rk_script.specs.Lines.{first_line, behind_line, past_line, remaining, IsNextLine, IsNextKept};
 ghost use Rattle.rk_script.specs.Script.{accepted_event, script};
 ghost use Rattle.rk_script.specs.Words.{ends_line};
 
+use crate::asked::Asked;
 use crate::error::{LineError, Read};
-use crate::grammar::event_of;
+use crate::grammar::asked_of;
 use crate::names::LiveNames;
-use crate::words::{is_printable, is_skipped, words};
-use crate::{Event, Line, ScriptError, Why};
+use crate::words::{is_printable, is_skipped, put_words};
+use crate::{Line, ScriptError, Why};
 use std::alloc::Global;
 use std::marker::Model;
 
@@ -21,6 +23,8 @@ pub struct Lines<'a> {
     left: &'a [u8],
     number: u64,
     names: LiveNames,
+    /// The words of the last line that was read. Those of the next one are put in their memory.
+    words: Vec<&'a [u8]>,
 }
 
 impl<'a> Model for Lines<'a> {
@@ -43,6 +47,7 @@ impl<'a> Lines<'a> {
             left: bytes,
             number: 0,
             names: LiveNames::new(alloc),
+            words: Vec::new(alloc),
         }
     }
 
@@ -57,22 +62,33 @@ impl<'a> Lines<'a> {
         ensures line { IsNextLine (remaining self.old) (remaining self.new) result }
         ensures shorter { IfOk result (λ next. IfSome next (λ _. length self.new.left < length self.old.left)) }
     {
+        match self.next_asked(alloc)? {
+            Some(asked) => Ok(Some(Line {
+                number: self.number,
+                event: asked.decode(alloc)?,
+            })),
+            None => Ok(None),
+        }
+    }
+
+    /// The next line as [`Lines::next`] reads it, but not decoded. Its number is then that of the cursor.
+    pub(crate) fn next_asked(&mut self, alloc: Global) -> Result<Option<Asked<'a>>, ScriptError>
+        ensures line { IsNextAsked self.old self.new result }
+        ensures shorter { IfOk result (λ next. IfSome next (λ _. length self.new.left < length self.old.left)) }
+    {
         let Some(line) = self.next_kept() else {
             return Ok(None);
         };
-        let event = match accepted_event(alloc, &self.names, line) {
-            Ok(event) => event,
+        let asked = match accepted(alloc, &self.names, &mut self.words, line) {
+            Ok(asked) => asked,
             Err(LineError::Memory) => return Err(ScriptError::Memory),
             Err(LineError::Bad(why)) => return Err(ScriptError::BadLine {
                 line: self.number,
                 why,
             }),
         };
-        self.names.add(&event)?;
-        Ok(Some(Line {
-            number: self.number,
-            event,
-        }))
+        self.names.add(alloc, &asked)?;
+        Ok(Some(asked))
     }
 
     /// The bytes of the next line that is not skipped.
@@ -120,13 +136,18 @@ fn first_end(bytes: &[u8]) -> Option<usize>
     bytes.iter().position(|byte| *byte == b'\n')
 }
 
-/// What a line asks for, where the live names let it stand.
-fn accepted_event(alloc: Global, names: &LiveNames, line: &[u8]) -> Read<Event>
-    ensures { ReadsSame result (accepted_event names.now line.now) }
+/// What a line asks for, where the live names let it stand. Its words are put in the place of those in the list.
+fn accepted<'a>(
+    alloc: Global,
+    names: &LiveNames,
+    words: &mut Vec<&'a [u8]>,
+    line: &'a [u8],
+) -> Read<Asked<'a>>
+    ensures { ReadsAs event_asked result (accepted_event names.now line.now) }
 {
     if !is_printable(line) {
         return Err(LineError::Bad(Why::Byte));
     }
-    let words = words(alloc, line)?;
-    Ok(names.check(event_of(alloc, &words)?)?)
+    put_words(words, line)?;
+    Ok(names.check(asked_of(alloc, words)?)?)
 }

@@ -1,13 +1,15 @@
 // The names that are live.
 ghost use Rattle.std.specs.Prelude.{◌≡◌, OnOk};
+ghost use Rattle.rk_script.specs.Asked.{answer_as, event_asked};
 ghost use Rattle.rk_script.specs.Naming.{is_called, with_name, without_name};
 ghost use Rattle.rk_script.specs.Script.{are_live, is_free, has_room, has_room_for, name_checks, names_after, no_names};
 ghost use Rattle.rk_script.specs.Checks.{checked};
 
+use crate::asked::Asked;
 use crate::limits::{MOST_ITERATORS, MOST_SNAPSHOTS, MOST_WRITERS};
 use crate::named::Named;
 use crate::words::is_word;
-use crate::{Event, Why, find};
+use crate::{Why, find};
 use rk_outside::{Bytes, NoMemory};
 use std::alloc::Global;
 use std::marker::Model;
@@ -39,77 +41,67 @@ impl LiveNames {
         }
     }
 
-    /// The event, where the names let it stand.
-    pub(crate) fn check(&self, event: Event) -> Result<Event, Why>
-        ensures { result ≡ checked (name_checks self.now event) event }
+    /// What is asked for, where the names let it stand.
+    pub(crate) fn check<'a>(&self, asked: Asked<'a>) -> Result<Asked<'a>, Why>
+        ensures { answer_as event_asked result ≡ checked (name_checks self.now (event_asked asked.entry)) (event_asked asked.entry) }
     {
-        if !self.are_live(&event) {
+        if !self.are_live(&asked) {
             Err(Why::NoName)
-        } else if !self.is_free(&event) {
+        } else if !self.is_free(&asked) {
             Err(Why::Taken)
-        } else if !self.has_room(&event) {
+        } else if !self.has_room(&asked) {
             Err(Why::TooMany)
         } else {
-            Ok(event)
+            Ok(asked)
         }
     }
 
     /// Whether each iterator and snapshot that a line uses is live.
-    fn are_live(&self, event: &Event) -> bool
-        ensures { result ≡ are_live self.now event.now }
+    fn are_live(&self, asked: &Asked<'_>) -> bool
+        ensures { result ≡ are_live self.now (event_asked asked.now) }
     {
-        match event {
-            Event::Release { name } => is_called(name.bytes(), &self.snapshots),
-            Event::Iter { at: Some(at), .. } => is_called(at.bytes(), &self.snapshots),
-            Event::First { iter }
-            | Event::Last { iter }
-            | Event::Next { iter }
-            | Event::Prev { iter }
-            | Event::SeekGe { iter, .. }
-            | Event::SeekLt { iter, .. }
-            | Event::Close { iter } => is_called(iter.bytes(), &self.iterators),
+        match asked {
+            Asked::Release { name } => is_called(name, &self.snapshots),
+            Asked::Iter { at: Some(at), .. } => is_called(at, &self.snapshots),
+            Asked::Move { iter, .. } | Asked::Close { iter } => is_called(iter, &self.iterators),
             _ => true,
         }
     }
 
     /// Whether the name of a snapshot or an iterator that a line makes is free.
-    fn is_free(&self, event: &Event) -> bool
-        ensures { result ≡ is_free self.now event.now }
+    fn is_free(&self, asked: &Asked<'_>) -> bool
+        ensures { result ≡ is_free self.now (event_asked asked.now) }
     {
-        match event {
-            Event::Snap { name } => !is_called(name.bytes(), &self.snapshots),
-            Event::Iter { name, .. } => !is_called(name.bytes(), &self.iterators),
+        match asked {
+            Asked::Snap { name } => !is_called(name, &self.snapshots),
+            Asked::Iter { name, .. } => !is_called(name, &self.iterators),
             _ => true,
         }
     }
 
     /// Whether there are no more names than there may be after a line.
-    fn has_room(&self, event: &Event) -> bool
-        ensures { result ≡ has_room self.now event.now }
+    fn has_room(&self, asked: &Asked<'_>) -> bool
+        ensures { result ≡ has_room self.now (event_asked asked.now) }
     {
-        match event {
-            Event::Snap { .. } => self.snapshots.len() < MOST_SNAPSHOTS,
-            Event::Iter { .. } => self.iterators.len() < MOST_ITERATORS,
-            _ => match event.writer() {
-                Some(writer) => has_room_for(writer.bytes(), &self.writers),
-                None => true,
-            },
+        match asked {
+            Asked::Batch { writer, .. } => has_room_for(writer, &self.writers),
+            Asked::Snap { .. } => self.snapshots.len() < MOST_SNAPSHOTS,
+            Asked::Iter { .. } => self.iterators.len() < MOST_ITERATORS,
+            _ => true,
         }
     }
 
     /// Takes in the names of a line.
-    pub(crate) fn add(&mut self, event: &Event) -> Result<(), NoMemory>
-        ensures { OnOk result (self.new ≡ names_after self.old event.now) }
+    pub(crate) fn add(&mut self, alloc: Global, asked: &Asked<'_>) -> Result<(), NoMemory>
+        ensures { OnOk result (self.new ≡ names_after self.old (event_asked asked.now)) }
     {
-        match event {
-            Event::Snap { name } => Ok(self.snapshots.push(name.copy()?)?),
-            Event::Release { name } => Ok(remove_name(&mut self.snapshots, name.bytes())),
-            Event::Iter { name, .. } => Ok(self.iterators.push(name.copy()?)?),
-            Event::Close { iter } => Ok(remove_name(&mut self.iterators, iter.bytes())),
-            _ => match event.writer() {
-                Some(writer) => add_name(&mut self.writers, writer),
-                None => Ok(()),
-            },
+        match asked {
+            Asked::Batch { writer, .. } => add_name(alloc, &mut self.writers, writer),
+            Asked::Snap { name } => Ok(self.snapshots.push(Bytes::from_slice(alloc, name)?)?),
+            Asked::Release { name } => Ok(remove_name(&mut self.snapshots, name)),
+            Asked::Iter { name, .. } => Ok(self.iterators.push(Bytes::from_slice(alloc, name)?)?),
+            Asked::Close { iter } => Ok(remove_name(&mut self.iterators, iter)),
+            Asked::Shape | Asked::Move { .. } => Ok(()),
         }
     }
 }
@@ -137,13 +129,13 @@ fn has_room_for(writer: &[u8], writers: &[Bytes]) -> bool
 }
 
 /// Adds a name, where it is not there.
-fn add_name(names: &mut Vec<Bytes>, name: &Bytes) -> Result<(), NoMemory>
+fn add_name(alloc: Global, names: &mut Vec<Bytes>, name: &[u8]) -> Result<(), NoMemory>
     ensures { OnOk result (names.new.items ≡ with_name name.now names.old.items) }
 {
-    if is_called(name.bytes(), names) {
+    if is_called(name, names) {
         Ok(())
     } else {
-        Ok(names.push(name.copy()?)?)
+        Ok(names.push(Bytes::from_slice(alloc, name)?)?)
     }
 }
 

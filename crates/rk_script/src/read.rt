@@ -24,7 +24,7 @@ pub fn read_script(alloc: Global, bytes: &[u8]) -> Result<Vec<Line>, ScriptError
     Ok(lines)
 }
 
-/// Whether a command file is of the grammar. It keeps no line.
+/// Whether a command file is of the grammar. It keeps no line, and decodes none.
 ///
 /// # Errors
 ///
@@ -34,8 +34,8 @@ pub fn check_script(alloc: Global, bytes: &[u8]) -> Result<(), ScriptError>
     ensures bad { IfErr result (λ error. IsScriptRefusal (script bytes.now) error) }
 {
     let mut left = Lines::new(alloc, bytes);
-    while let Some(line) = left.next(alloc)? {
-        drop(line);
+    while let Some(asked) = left.next_asked(alloc)? {
+        drop(asked);
     }
     Ok(())
 }

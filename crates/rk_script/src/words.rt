@@ -1,24 +1,28 @@
 // Lines and words.
-ghost use Rattle.std.specs.Prelude.{◌≡◌, ◌==◌, IfOk, map};
+ghost use Rattle.std.specs.Prelude.{◌≡◌, ◌==◌, OnOk, map};
 ghost use Rattle.std.specs.List.{list_all};
 ghost use Rattle.rk_model.specs.Spans.{same_bytes};
 ghost use Rattle.rk_script.specs.Grammar.{name_of};
-ghost use Rattle.rk_script.specs.LineErrors.{ReadsSame};
+ghost use Rattle.rk_script.specs.LineErrors.{ReadsAs};
 ghost use Rattle.rk_script.specs.Words.{words, space, is_skipped, is_printable, is_name, is_name_byte};
 
 use crate::Why;
 use crate::error::{LineError, Read};
 use crate::limits::MOST_NAME_BYTES;
-use rk_outside::Bytes;
-use std::alloc::{AllocError, Global};
+use std::alloc::AllocError;
 
-/// The words of a line, which stand between spaces.
-pub(crate) fn words(alloc: Global, line: &[u8]) -> Result<Vec<&[u8]>, AllocError>
-    ensures { IfOk result (λ v. map (λ w. w.now) v.items ≡ words line.now) }
+/// Puts the words of a line, which stand between spaces, in the place of those in the list.
+pub(crate) fn put_words<'a>(list: &mut Vec<&'a [u8]>, line: &'a [u8]) -> Result<(), AllocError>
+    ensures { OnOk result (map (λ w. w.now) list.new.items ≡ words line.now) }
 {
-    line.split(|byte| *byte == b' ')
+    list.clear();
+    for word in line
+        .split(|byte| *byte == b' ')
         .filter(|word| !word.is_empty())
-        .collect(alloc)
+    {
+        list.push(word)?;
+    }
+    Ok(())
 }
 
 /// Whether a line is passed over: it is empty, a comment, or of spaces alone.
@@ -45,11 +49,11 @@ pub(crate) fn is_printable(line: &[u8]) -> bool
 }
 
 /// The name that a word is.
-pub(crate) fn name_of(alloc: Global, word: &[u8]) -> Read<Bytes>
-    ensures { ReadsSame result (name_of word.now) }
+pub(crate) fn name_of(word: &[u8]) -> Read<&[u8]>
+    ensures { ReadsAs (λ name. name.now) result (name_of word.now) }
 {
     if is_name(word) {
-        Ok(Bytes::from_slice(alloc, word)?)
+        Ok(word)
     } else {
         Err(LineError::Bad(Why::Name))
     }
