@@ -1,5 +1,5 @@
 -- What the calls of a journal say of the vault that they change.
-use Rattle.std.specs.Prelude.{◌≡◌, ◌≤◌, ℕ, true, List, [], ◌∷◌, Option, Result, OnOk, IfErr}
+use Rattle.std.specs.Prelude.{◌≡◌, ◌≤◌, ◌⊎◌, ℕ, true, List, [], ◌∷◌, Option, Result, Ok, Err, OnOk, IfErr}
 use Rattle.rk_outside.specs.declared.error.StoreError.{StoreError}
 use Rattle.rk_outside.specs.declared.error.StoreError.TheVariants.{Memory, WriteFault, ReadFault, BadRecord, TooLong, BadTable, Halted, EmptyBatch, SequenceEnd, MemFull, NoSnap, TooManySnaps, NotAStore, FileEnd, TooManyTables, StrangeJob}
 use Rattle.rk_outside.specs.Causes.{Rose}
@@ -73,3 +73,14 @@ pub record HasReadCause {T : Type 0} (file : ℕ) (IsBad : ℕ → Type 0) (befo
   pub later : before ≤ now
   pub failed : IfErr result (IsReadRefusal file IsBad before now)
   pub kept : OnOk result (now ≡ before)
+
+-- the same of a reading of two files, of which the record is one
+pub record HasReadCauseOfTwo {T : Type 0} (first second : ℕ) (IsBad : ℕ → ℕ → Type 0) (before now : ℕ) (result : Result T StoreError) : Type 0 where
+  pub later : before ≤ now
+  pub failed : IfErr result (λ e. IsReadRefusal first (IsBad first) before now e ⊎ IsReadRefusal second (IsBad second) before now e)
+  pub kept : OnOk result (now ≡ before)
+
+-- a bad record of a file, where a place is refused
+abbrev pub in_journal : {A : Type 0} → ℕ → Result A ℕ → Result A StoreError
+in_journal file (Ok a) = Ok a
+in_journal file (Err at) = Err (BadRecord file at)

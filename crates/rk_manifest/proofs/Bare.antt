@@ -10,8 +10,8 @@ use Rattle.byteorder.specs.Numbers.{big_number-reads_back}
 use Rattle.rk_pieces.specs.Pieces.{big_at, is_empty, tested}
 use Rattle.rk_manifest.specs.Versions.{Version, IsVersionOf, are_levels, has_no_tables, version_bytes, version_at, version_of, without_tables}
 use Rattle.rk_manifest.specs.declared.types.TableDesc.{TableDesc}
-use Rattle.rk_manifest.proofs.Fields.{IsBytes, rest_fits, big_takes, bind_some, bind_again, spells_8}
-use Rattle.rk_manifest.proofs.Spellings.{version_takes, version_again, tested_is, bounds, HasSize, Few}
+use Rattle.rk_pieces.proofs.Fields.{IsBytes, rest_fits, big_takes, bind_some, bind_again, spells_8, tested_is}
+use Rattle.rk_manifest.proofs.Spellings.{version_takes, version_again, bounds, HasSize, Few}
 
 zeros : (bytes : List ℕ) → list_all (λ b. b == 0) bytes ≡ true → bytes ≡ replicate (length bytes) 0
 zeros [] h = refl

@@ -5,13 +5,13 @@ use Rattle.std.proofs.lemmas.Bool.{false≢true}
 use Rattle.rk_outside.specs.Disks.{Files, Disk, TellsFiles, IsHonest, EachImage, IsImageNow, IsImageBut, LeavesOnly}
 use Rattle.rk_outside.proofs.Runs.{still_told, leaves_on, leaves_less, leaves_file_on, leaves_file_less}
 use Rattle.rk_outside.proofs.Steps.{now_since, started}
-use Rattle.rk_gate.specs.Calls.{ChangesFile}
+use Rattle.rk_gate.specs.Calls.{ChangesFile, in_journal}
 use Rattle.rk_gate.specs.Changes.{IsAnything, HasRecordsOf, HasWithOrWithout, after_append}
 use Rattle.rk_gate.specs.Records.{recovered_file}
 use Rattle.rk_manifest.specs.Versions.{no_version, Version, version_bytes, has_no_tables}
 use Rattle.rk_pieces.specs.Pieces.{then_do}
 use Rattle.rk_outside.specs.declared.error.StoreError.{StoreError}
-use Rattle.rk_manifest.specs.Manifests.{in_journal, newer_of, versions_above, ManifestState, StandsFor, MayFollow, IsInFourth, HasOldOrNew, versions_in, is_newer, newest, manifest_in, file_of}
+use Rattle.rk_manifest.specs.Manifests.{newer_of, versions_above, ManifestState, StandsFor, MayFollow, IsInFourth, HasOldOrNew, versions_in, is_newer, newest, manifest_in, file_of}
 use Rattle.rk_manifest.specs.Calls.{IsImageBesides, ChangesManifest, HasManifestOf, start_of, MayStart, MayHold}
 use Rattle.rk_manifest.proofs.Spellings.{bounds}
 use Rattle.rk_manifest.proofs.Installing.{Known, ok_and, recorded_from, payload_read, held, third_written, fourth_written, new_in_third, new_in_fourth}

@@ -8,9 +8,10 @@ use Rattle.rk_gate.specs.declared.record.Record.{Record}
 use Rattle.rk_gate.specs.Records.{recovered_file}
 use Rattle.rk_gate.specs.Changes.{HasRecordsOf, after_append, with_payload}
 use Rattle.rk_manifest.specs.Versions.{Version, is_version, has_no_tables, version_bytes, version_of, without_tables, no_version}
-use Rattle.rk_manifest.specs.Manifests.{version_above, versions_above, versions_in, is_newer, newer_of, newest, in_journal, newest_recorded, manifest_of}
+use Rattle.rk_manifest.specs.Manifests.{version_above, versions_above, versions_in, is_newer, newer_of, newest, newest_recorded, manifest_of}
+use Rattle.rk_gate.specs.Calls.{in_journal}
 use Rattle.rk_manifest.specs.Calls.{start_of, MayStart, MayHold}
-use Rattle.rk_manifest.proofs.Fields.{bind_again}
+use Rattle.rk_pieces.proofs.Fields.{bind_again}
 use Rattle.rk_manifest.proofs.Spellings.{bounds}
 use Rattle.rk_manifest.proofs.Bare.{IsBare, bare_again, none_at}
 use Rattle.rk_manifest.proofs.Newest.{newest_added, taken}

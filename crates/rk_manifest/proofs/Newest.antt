@@ -8,8 +8,7 @@ use Rattle.rk_pieces.specs.Pieces.{tested, then_do, or_refuse}
 use Rattle.rk_gate.specs.declared.record.Record.{Record}
 use Rattle.rk_manifest.specs.Versions.{Version, version_of}
 use Rattle.rk_manifest.specs.Manifests.{version_above, versions_above, is_newer, newer_of, newest}
-use Rattle.rk_manifest.proofs.Fields.{bind_some}
-use Rattle.rk_manifest.proofs.Spellings.{tested_is}
+use Rattle.rk_pieces.proofs.Fields.{bind_some, tested_is}
 
 -- the next file number, and 0 where nothing is recorded
 abbrev pub floor_of : Option Version → ℕ

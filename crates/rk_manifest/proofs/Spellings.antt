@@ -9,7 +9,8 @@ use Rattle.byteorder.specs.Endian.{big_bytes}
 use Rattle.rk_pieces.specs.Pieces.{◌>>=◌, big_at, short, short_at, whole, tested, each_pair}
 use Rattle.rk_manifest.specs.Versions.{Version, IsVersionOf, flag, flag_at, is_version, is_table_desc, is_bare, are_levels, tables, table_bytes, level_bytes, table_at, tables_at, levels_at, version_at}
 use Rattle.rk_manifest.specs.declared.types.TableDesc.{TableDesc}
-use Rattle.rk_manifest.proofs.Fields.{IsBytes, rest_fits, bind_some, bind_again, some_is, spells_4, spells_8, big_takes, big_again, short_takes, short_again, flag_takes, flag_again}
+use Rattle.rk_pieces.proofs.Fields.{IsBytes, rest_fits, bind_some, bind_again, some_is, whole_is, tested_is, spells_4, spells_8, big_takes, big_again, short_takes, short_again}
+use Rattle.rk_manifest.proofs.Fields.{flag_takes, flag_again}
 
 -- the bytes are those of the table, and then the rest
 pub record TakesTable (bytes : List ℕ) (t : TableDesc) (rest : List ℕ) : Type 0 where
@@ -143,17 +144,6 @@ levels_again (level ∷ levels) rest few small =
     ∙ bind_again (tables_at (length level) (flat_map table_bytes level ++ after)) (level, after) (λ l. levels_at (length levels) l.1 >>= λ more. Some (l.0 ∷ more.0, more.1)) (tables_again level after parts.0)
     ∙ bind_again (levels_at (length levels) after) (levels, rest) (λ more. Some (level ∷ more.0, more.1)) (levels_again levels rest (All-tail Few level levels few) parts.1)
 
-pub whole_is : {A : Type 0} (p : A × List ℕ) (a : A) → whole p ≡ Some a → p ≡ (a, [])
-whole_is (x, []) a e = ap (λ y. (y, [])) (some_is x a e)
-whole_is (x, b ∷ bytes) a e = absurd cc
-
-by_test : {A : Type 0} (b : Bool) (a v : A) → cond b (Some a) None ≡ Some v → (b ≡ true) × (a ≡ v)
-by_test true a v e = (refl, some_is a v e)
-by_test false a v e = absurd cc
-
-pub tested_is : {A : Type 0} (test : A → Bool) (a v : A) → tested test a ≡ Some v → (test a ≡ true) × (a ≡ v)
-tested_is test a v e = by_test (test a) a v e
-
 abbrev pub HasSize : TableDesc → Type 0
 HasSize t = t.size < 2 ^ 64
 
@@ -239,8 +229,3 @@ version_again bytes v h =
     ∙ bind_again (big_at 8 (big_bytes 8 v.flushed_upto ++ levels)) (v.flushed_upto, levels) (λ flushed_upto. levels_at 4 flushed_upto.1 >>= λ levels. whole levels >>= λ all. tested is_version (record { next_file = v.next_file; flushed_upto = flushed_upto.0; levels = all })) (big_again 8 v.flushed_upto levels (omega (arith, b.flushed_upto)))
     ∙ bind_again (levels_at 4 levels) (v.levels, []) (λ levels. whole levels >>= λ all. tested is_version (record { next_file = v.next_file; flushed_upto = v.flushed_upto; levels = all })) read
     ∙ ap (λ (t : Bool). cond t (Some v) None) h.is_version
-
-pub bytes_from_all : (bytes : List ℕ) → All (λ b. b < 256) bytes → IsBytes bytes
-bytes_from_all [] h i = omega arith
-bytes_from_all (b ∷ bytes) h zero = All-head (λ x. x < 256) b bytes h
-bytes_from_all (b ∷ bytes) h (suc i) = bytes_from_all bytes (All-tail (λ x. x < 256) b bytes h) i

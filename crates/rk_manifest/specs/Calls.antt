@@ -42,13 +42,8 @@ pub record IsAsBefore (old new : ManifestState) : Type 0 where
   pub fourth : new.fourth.gate ≡ old.fourth.gate
   pub in_fourth : new.in_fourth ≡ old.in_fourth
 
--- the count never falls, a reading of the two files is refused with its cause, and no fault is passed over
-pub record HasRecoveryCause {T : Type 0} (IsBad : ℕ → ℕ → Type 0) (before now : ℕ) (result : Result T StoreError) : Type 0 where
-  pub later : before ≤ now
-  pub failed : IfErr result (λ e. IsReadRefusal 3 (IsBad 3) before now e ⊎ IsReadRefusal 4 (IsBad 4) before now e)
-  pub kept : OnOk result (now ≡ before)
-
--- The same of a change before which a length is read: no record is refused then, so it does not matter of which file it is
+-- A change before which a length is read: the count never falls, a refusal has its cause, and no fault is passed over. As no
+-- record is refused then, it does not matter of which file it would be
 pub record HasInstallCause {T : Type 0} (before now : ℕ) (result : Result T StoreError) : Type 0 where
   pub later : before ≤ now
   pub failed : IfErr result (λ e. IsWriteRefusal before now e ⊎ IsReadRefusal 3 (λ at. ⊥) before now e)

@@ -1,11 +1,11 @@
 -- The records of a manifest's two files, the newest version that they describe, and what a new one makes of them.
 use Rattle.std.specs.Prelude.{◌≡◌, ℕ, nat_lt, nat_le, Bool, true, false, IsTrue, not, if◌then◌else◌, Option, Some, None, unwrap_or, Result, Ok, Err, IsOkAnd, List, [], ◌∷◌, length, ◌⊎◌}
 use Rattle.rk_outside.specs.declared.error.StoreError.{StoreError}
-use Rattle.rk_outside.specs.declared.error.StoreError.TheVariants.{BadRecord}
 use Rattle.rk_outside.specs.Disks.{Files}
 use Rattle.rk_pieces.specs.Pieces.{◌>>=◌, tested, then_do, or_refuse}
 use Rattle.rk_gate.specs.declared.record.Record.{Record}
 use Rattle.rk_gate.specs.Records.{recovered_file}
+use Rattle.rk_gate.specs.Calls.{in_journal}
 use Rattle.rk_gate.specs.Changes.{JournalState, IsJournalWithGate}
 use Rattle.rk_manifest.specs.Versions.{Version, version_of, no_version, is_version}
 
@@ -38,11 +38,6 @@ newer_of first second = if is_newer first second then second else first
 abbrev pub newest : List Version → Option Version
 newest [] = None
 newest (v ∷ vs) = newer_of (Some v) (newest vs)
-
--- a bad record of a file, where a place is refused
-abbrev pub in_journal : {A : Type 0} → ℕ → Result A ℕ → Result A StoreError
-in_journal file (Ok a) = Ok a
-in_journal file (Err at) = Err (BadRecord file at)
 
 -- The newest version that the manifest's files 3 and 4 have recorded, that of file 3 where both are equal, and none where
 -- there is none; or the first bad record, those of file 3 before those of file 4

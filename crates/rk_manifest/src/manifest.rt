@@ -2,12 +2,12 @@ ghost use Rattle.std.specs.Prelude.{◌≡◌, ◌≢◌, ◌≤◌, ℕ, [], �
 ghost use Rattle.rk_outside.specs.Disks.{TellsFiles, IsHonest, EachImage, FilesStayBut, LeavesOnly};
 ghost use Rattle.rk_outside.specs.Vaults.{RoomsStay};
 ghost use Rattle.rk_outside.specs.declared.error.StoreError.TheVariants.{BadRecord};
-ghost use Rattle.rk_gate.specs.Calls.{ChangesFile, HasReadCause, HasWriteCause};
+ghost use Rattle.rk_gate.specs.Calls.{ChangesFile, HasReadCause, HasReadCauseOfTwo, HasWriteCause};
 ghost use Rattle.rk_gate.specs.Changes.{HasRecordsOf, IsJournalWithGate, after_append};
 ghost use Rattle.rk_gate.specs.Records.{recovered_file};
 ghost use Rattle.rk_manifest.specs.Versions.{version, version_bytes, has_no_tables, no_version};
 ghost use Rattle.rk_manifest.specs.Manifests.{manifest_in, is_newer, StandsFor, MayFollow, HasOldOrNew, is_full, file_of, goes_to_fourth};
-ghost use Rattle.rk_manifest.specs.Calls.{ChangesManifest, HasManifestOf, HasRoom, IsAsBefore, HasRecoveryCause, HasInstallCause, start_of, MayHold};
+ghost use Rattle.rk_manifest.specs.Calls.{ChangesManifest, HasManifestOf, HasRoom, IsAsBefore, HasInstallCause, start_of, MayHold};
 
 use crate::VersionDesc;
 use crate::decode::no_tables;
@@ -96,7 +96,7 @@ impl Manifest {
         ensures stands { TellsFiles (V.disk vault.old) → IfOk result (λ r. StandsFor r.0 (V.disk vault.old).files) }
 
         // A bad record is named exactly where the contents have it first.
-        ensures cause { HasRecoveryCause
+        ensures cause { HasReadCauseOfTwo 3 4
             (λ file at. TellsFiles (V.disk vault.old) → manifest_in (V.disk vault.old).files ≡ Err (BadRecord file at))
             (V.fault_count vault.old) (V.fault_count vault.new) result }
         ensures same { V.disk vault.new ≡ V.disk vault.old }

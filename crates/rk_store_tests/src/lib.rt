@@ -1,5 +1,5 @@
-//! Tests of what a store keeps: vaults in memory, journals and versions over them, where calls fail and crashes come,
-//! and the lock and its turns.
+//! Tests of what a store keeps: vaults in memory, journals and versions over them, where calls fail and crashes come, and
+//! the lock and its turns.
 //!
 //! A contract says what a call answers where it finds memory. These tests show that with ample memory each public
 //! call does so, on rows worked out by hand, and that threads get on. They stand above what they test, so that no crate

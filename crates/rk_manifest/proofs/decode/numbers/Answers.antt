@@ -4,7 +4,7 @@ use Rattle.std.specs.List.{list_all}
 use Rattle.std.proofs.lemmas.Bool.{false≢true}
 use Rattle.byteorder.specs.Endian.{big_bytes, big_number}
 use Rattle.rk_manifest.specs.Versions.{version_of}
-use Rattle.rk_manifest.proofs.Fields.{IsBytes}
+use Rattle.rk_pieces.proofs.Fields.{IsBytes}
 use Rattle.rk_manifest.proofs.Bare.{IsBare, IsShaped, bare_again, bare_takes, bare_shape, shaped, rest_of, none_from}
 use Rattle.rk_manifest.proofs.decode.numbers.Goals as goal
 use Rattle.rk_manifest.proofs.decode.numbers.Goals.{then-bytes-ne-BARE_LEN-via-then-bytes-ne-BARE_LEN, then-bytes-ne-BARE_LEN-via-else-bytes-ne-BARE_LEN+then-not-are_zeros}

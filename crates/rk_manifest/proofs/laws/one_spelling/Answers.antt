@@ -1,4 +1,5 @@
-use Rattle.rk_manifest.proofs.Spellings.{version_takes, version_again, bytes_from_all}
+use Rattle.rk_pieces.proofs.Fields.{bytes_from_all}
+use Rattle.rk_manifest.proofs.Spellings.{version_takes, version_again}
 use Rattle.rk_manifest.proofs.laws.one_spelling.Goals as goal
 
 pub returns-clause-read : goal.returns-clause-read

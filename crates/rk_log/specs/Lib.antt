@@ -1,0 +1,5 @@
+pub mod Batches
+pub mod Due
+pub mod Pending
+pub mod Groups
+pub mod Logs
