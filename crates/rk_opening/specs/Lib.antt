@@ -1,0 +1,5 @@
+pub mod Stores
+pub mod Openings
+pub mod Syncing
+pub mod Changing
+pub mod Settling
