@@ -61,9 +61,7 @@ impl Pending {
     {
         let bytes = in_frame(*self.bytes.allocator(), batch)?;
         self.bytes.extend_from_slice(&bytes)?;
-        if self.count == 0 {
-            self.first = first;
-        }
+        self.first = self.first_with(first);
         self.count += 1;
         self.size += batch.size();
         Ok(())
@@ -98,6 +96,42 @@ impl Pending {
         push_length(&mut payload, self.count)?;
         payload.extend_from_slice(&self.bytes)?;
         Ok(payload)
+    }
+
+    /// The payload of the group with one batch more, which is not added. Where it is the first batch, the group begins with the
+    /// number of its first operation.
+    ///
+    /// # Errors
+    ///
+    /// `NoMemory` where the payload finds none.
+    pub fn payload_with(
+        &self,
+        alloc: Global,
+        first: u64,
+        batch: &Batch,
+    ) -> Result<Vec<u8>, NoMemory>
+        requires some { 1 ≤ length batch.now }
+        requires few { self.now.count + 1 < 2 ^ 32 }
+        ensures { (batches : List (List Op)) → Holds self.now batches →
+            IfOk result (λ payload. IsGroupOf payload.items (record {
+              first = if self.now.count == 0 then first else self.now.first;
+              batches = batches ++ batch.now ∷ [];
+            })) }
+    {
+        let frame = in_frame(alloc, batch)?;
+        let mut payload = Vec::new(alloc);
+        push_number(&mut payload, self.first_with(first))?;
+        push_length(&mut payload, self.count + 1)?;
+        payload.extend_from_slice(&self.bytes)?;
+        payload.extend_from_slice(&frame)?;
+        Ok(payload)
+    }
+
+    // What a group begins with, where one batch more begins with this number.
+    fn first_with(&self, first: u64) -> u64
+        ensures { result ≡ (if self.now.count == 0 then first else self.now.first) }
+    {
+        if self.count == 0 { first } else { self.first }
     }
 
     /// Leaves no batch, and keeps the memory.

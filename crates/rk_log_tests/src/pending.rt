@@ -48,6 +48,37 @@ fn batches_are_spelled_as_one_group(rt: HostRuntime) -> Result<(), Fail> {
     Ok(())
 }
 
+// The payload with one batch more, where there is one and room for it.
+fn payload_with(
+    pending: &Pending,
+    alloc: Global,
+    first: u64,
+    batch: &Batch,
+) -> Result<Vec<u8>, NoMemory> {
+    if batch.count() == 0 || pending.count() > 8 {
+        return Err(NoMemory);
+    }
+    pending.payload_with(alloc, first, batch)
+}
+
+#[test]
+fn a_batch_is_spelled_with_those_that_wait(rt: HostRuntime) -> Result<(), Fail> {
+    let alloc = rt.alloc();
+    let batch = put_a(alloc)?;
+    let mut pending = Pending::new(alloc);
+    assert_eq!(rt;
+        payload_with(&pending, alloc, 1, &batch)?.as_slice(),
+        ONE.as_slice()
+    );
+    push(&mut pending, 256, &batch)?;
+    assert_eq!(rt;
+        payload_with(&pending, alloc, 257, &batch)?.as_slice(),
+        TWO.as_slice()
+    );
+    assert_eq!(rt; (pending.count(), pending.size()), (1, 9));
+    Ok(())
+}
+
 #[test]
 fn a_group_is_read_again(rt: HostRuntime) -> Result<(), Fail> {
     match Group::decode(rt.alloc(), &TWO)? {

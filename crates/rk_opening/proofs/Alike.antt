@@ -75,7 +75,7 @@ kept_whole flushed old new are whole = record {
     taken : (by : List Logged → List Logged → List Logged) → by (later flushed new.first) (later flushed new.second) ≡ by (later flushed old.first) (later flushed old.second)
     taken by = λ i. by (same_later flushed old.first new.first are.first i) (same_later flushed old.second new.second are.second i)
 
-then_ok : {A B E : Type 0} (r : Result A E) (f : A → Result B E) (b : B) → then_do r f ≡ Ok b → (a : A) × (r ≡ Ok a) × (f a ≡ Ok b)
+pub then_ok : {A B E : Type 0} (r : Result A E) (f : A → Result B E) (b : B) → then_do r f ≡ Ok b → (a : A) × (r ≡ Ok a) × (f a ≡ Ok b)
 then_ok (Ok a) f b e = (a, refl, e)
 then_ok (Err x) f b e = absurd cc
 
@@ -106,13 +106,13 @@ have_logs flushed files l e =
       whole = record { first = first.0; second = second.0 };
     })
 
-logs_back : (flushed : ℕ) (files : Files) (l : LogsSeen) → HaveLogs flushed files l → logs_in flushed files ≡ Ok l
+pub logs_back : (flushed : ℕ) (files : Files) (l : LogsSeen) → HaveLogs flushed files l → logs_in flushed files ≡ Ok l
 logs_back flushed files l h =
     both_read flushed files l.first l.second h.first h.second
     ∙ ap (λ bad. or_bad 1 bad (or_bad 2 (broken_in_second flushed l.first l.second) (Ok l))) h.whole.first
     ∙ ap (λ bad. or_bad 2 bad (Ok l)) h.whole.second
 
-store_from : (files : Files) (version : Version) (logs : LogsSeen) → manifest_in files ≡ Ok version → logs_in version.flushed_upto files ≡ Ok logs
+pub store_from : (files : Files) (version : Version) (logs : LogsSeen) → manifest_in files ≡ Ok version → logs_in version.flushed_upto files ≡ Ok logs
     → store_of files ≡ Ok (record { version = version; logs = logs })
 store_from files version logs m e =
     ap (λ r. then_do r (λ v. then_do (logs_in v.flushed_upto files) (λ l. Ok (record { version = v; logs = l })))) m
