@@ -1,4 +1,4 @@
--- A record more of a journal is a group more of its log, and the group breaks a rule or none does.
+-- A record more of a journal, and a group more of its log.
 use Rattle.std.proofs.Common.{◌≡◌, ℕ, Bool, true, false, cond, List, [], ◌∷◌, ◌++◌, Option, Some, None, Ok, refl, sym, ap, ◌∙◌, append_assoc}
 use Rattle.std.specs.Option.{option_map_or}
 use Rattle.std.proofs.lemmas.List.{append-nil}
@@ -37,7 +37,7 @@ log_more old file payload gs g e is more =
           ∙ groups_more records.0 (record { at = at; payload = payload }) gs g records.2 is,
     )
 
--- no group of some was broken, if none was at the first of them, nor behind it
+-- where no group of some breaks a rule, the first of them doesn't, and none behind it
 pub none_at : (broken : Bool) (at : ℕ) (rest : Option ℕ) → cond broken (Some at) rest ≡ None → (broken ≡ false) × (rest ≡ None)
 none_at true at rest e = absurd cc
 none_at false at rest e = (refl, e)

@@ -1,5 +1,5 @@
 -- A group that was read has an operation, so that it ends above the number that it begins with.
-use Rattle.std.proofs.Common.{◌≡◌, ℕ, zero, suc, ◌<◌, ◌≤◌, Bool, true, false, cond, ltb, leb, eqb, List, [], ◌∷◌, length, Option, Some, None, Ok, refl, ap, subst, length-append, arith}
+use Rattle.std.proofs.Common.{◌≡◌, ℕ, zero, suc, ◌<◌, ◌≤◌, Bool, true, false, cond, ltb, leb, eqb, List, [], ◌∷◌, length, Option, Some, None, Ok, refl, sym, ap, subst, length-append, arith}
 use Rattle.std.specs.Prelude.{All, Result}
 use Rattle.std.proofs.lemmas.Bool.{ltb-true, ltb-false}
 use Rattle.std.proofs.lemmas.List.Elements.{All-nil, All-cons}
@@ -17,9 +17,18 @@ use Rattle.rk_log.specs.Logs.{groups_in, log_of}
 use Rattle.rk_log.specs.declared.group.Logged.{Logged}
 use Rattle.rk_opening.proofs.Alike.{then_ok}
 
--- what holds of a value holds of the one that was read
+-- what holds of a value holds of what was read
 of_read : {A : Type 0} (P : A → Type 0) (a b : A) → done a ≡ done b → P a → P b
 of_read P a b e p = subst P (some_is a b e) p
+
+-- where nothing follows it
+of_whole : {A : Type 0} (P : A → Type 0) (p : A × List ℕ) (a : A) → whole p ≡ Some a → P p.0 → P a
+of_whole P p a e h = subst (λ (q : _ × List ℕ). P q.0) (whole_is p a e) h
+
+count_some : (n count : ℕ) → tested (ltb 0) n ≡ Some count → 1 ≤ count
+count_some n count e =
+    let test = tested_is (ltb 0) n count e in
+    subst (λ (k : ℕ). 1 ≤ k) test.1 (ltb-true 0 n test.0)
 
 ops_counted : (n : ℕ) (bytes : List ℕ) (p : List Op × List ℕ) → ops_at n bytes ≡ Some p → length p.0 ≡ n
 unfolding ops_at
@@ -55,10 +64,9 @@ batch_some bytes ops e =
     let head = bind_some (head_at bytes) (λ head. tested is_short bytes >>= λ short. ops_at head.0 head.1 >>= λ ops. whole ops) ops e in
     let short = bind_some (tested is_short bytes) (λ short. ops_at head.0.0 head.0.1 >>= λ ops. whole ops) ops head.2 in
     let read = bind_some (ops_at head.0.0 head.0.1) (λ ops. whole ops) ops short.2 in
-    let count = ops_counted head.0.0 head.0.1 read.0 read.1 in
-    let all : length read.0.0 ≡ length ops = subst (λ (q : List Op × List ℕ). length read.0.0 ≡ length q.0) (whole_is read.0 ops read.2) refl in
     let some : 1 ≤ head.0.0 = head_some bytes head.0 head.1 in
-    omega (arith, count, all, some)
+    let all : 1 ≤ length read.0.0 = subst (λ (n : ℕ). 1 ≤ n) (sym (ops_counted head.0.0 head.0.1 read.0 read.1)) some in
+    of_whole (λ (ops : List Op). 1 ≤ length ops) read.0 ops read.2 all
 
 framed_some : (bytes : List ℕ) (p : List Op × List ℕ) → framed_at bytes ≡ Some p → 1 ≤ length p.0
 unfolding framed_at
@@ -86,20 +94,19 @@ group_some payload g e =
     let some = bind_some (tested (ltb 0) count.0.0) (λ some. batches_at some count.0.1 >>= λ batches. whole batches >>= λ all. Some (record { first = first.0.0; batches = all })) g count.2 in
     let batches = bind_some (batches_at some.0 count.0.1) (λ batches. whole batches >>= λ all. Some (record { first = first.0.0; batches = all })) g some.2 in
     let all = bind_some (whole batches.0) (λ all. Some (record { first = first.0.0; batches = all })) g batches.2 in
-    let test = tested_is (ltb 0) count.0.0 some.0 some.1 in
-    let above : 1 ≤ some.0 = subst (λ (n : ℕ). 1 ≤ n) test.1 (ltb-true 0 count.0.0 test.0) in
+    let above = count_some count.0.0 some.0 some.1 in
     let read : 1 ≤ length (operations batches.0.0) = batches_some some.0 count.0.1 batches.0 batches.1 above in
-    let is : 1 ≤ length (operations all.0) = subst (λ (q : List (List Op) × List ℕ). 1 ≤ length (operations q.0)) (whole_is batches.0 all.0 all.1) read in
+    let is = of_whole (λ (bs : List (List Op)). 1 ≤ length (operations bs)) batches.0 all.0 all.1 read in
     of_read (λ (h : GroupSeen). 1 ≤ length (operations h.batches)) (record { first = first.0.0; batches = all.0 }) g all.2 is
 
 -- the group ends above the number that it begins with
 abbrev pub EndsAbove : Logged → Type 0
 EndsAbove g = g.group.first < group_end g.group
 
-pub read_ends_above : (at : ℕ) (payload : List ℕ) (g : GroupSeen) → group_of payload ≡ Some g → EndsAbove (record { at = at; group = g })
+read_ends_above : (at : ℕ) (payload : List ℕ) (g : GroupSeen) → group_of payload ≡ Some g → EndsAbove (record { at = at; group = g })
 read_ends_above at payload g is = omega (arith, group_some payload g is)
 
-pub not_refused : {A : Type 0} (at : ℕ) (read : Option A) (a : A) → or_refuse at read ≡ Ok a → read ≡ Some a
+not_refused : {A : Type 0} (at : ℕ) (read : Option A) (a : A) → or_refuse at read ≡ Ok a → read ≡ Some a
 not_refused at None a e = absurd cc
 not_refused at (Some b) a e = cc
 

@@ -19,8 +19,9 @@ use Rattle.rk_wal.specs.Following.{IsReady, IsNext, log_of, other_of, with_group
 use Rattle.rk_wal.specs.Writing.{HasMore}
 use Rattle.rk_wal.proofs.Counted.{EndsAbove, log_ends_above}
 use Rattle.rk_wal.proofs.Appended.{log_more, none_broken_more, later_more, due_more}
-use Rattle.rk_wal.proofs.Taken.{AreInTurn, are_last, in_turn, whole_from, begins_due, later_above, due_above}
+use Rattle.rk_wal.proofs.Taken.{EndsOver, AreInTurn, are_last, in_turn, whole_from, begins_due, later_above, due_above}
 
+-- a group that begins where its log ends
 no_gap : (log : List Logged) (g : Logged) → (log ≡ []) ⊎ (due_behind 0 log ≡ g.group.first) → is_gap log g ≡ false
 no_gap log g joins = ⊎_elim
     (λ none. ap (λ gs. is_gap gs g) none)
@@ -62,7 +63,7 @@ begins_below : (flushed : ℕ) (other : List Logged) → logs.broken_behind flus
     → (h : Logged) (hs : List Logged) → later flushed other ≡ h ∷ hs → h.group.first < due_behind (flushed + 1) (later flushed other)
 begins_below flushed other whole each h hs is =
     let first : h.group.first ≡ flushed + 1 = begins_due flushed [] [] other h hs refl whole is in
-    let ends : flushed + 1 < due_behind (flushed + 1) (h ∷ hs) = due_above (flushed + 1) (flushed + 1) h hs (subst (All (λ g. flushed + 1 < group_end g.group)) is (later_above flushed other each)) in
+    let ends : flushed + 1 < due_behind (flushed + 1) (h ∷ hs) = due_above (flushed + 1) (flushed + 1) h hs (subst (All (EndsOver (flushed + 1))) is (later_above flushed other each)) in
     subst (λ gs. h.group.first < due_behind (flushed + 1) gs) (sym is) (omega (arith, first, ends))
 
 -- the two logs, of which the one that is taken last has a group more

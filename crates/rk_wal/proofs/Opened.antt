@@ -14,7 +14,7 @@ use Rattle.rk_opening.proofs.Alike.{AreWhole, HaveLogs}
 use Rattle.rk_wal.specs.Following.{IsReady, is_taken_last, due_in}
 use Rattle.rk_wal.proofs.Counted.{EndsAbove, log_ends_above}
 use Rattle.rk_wal.proofs.Appended.{none_at, later_more, later_same, due_more}
-use Rattle.rk_wal.proofs.Taken.{are_last, keeps_rules, begins_due, later_above, due_above}
+use Rattle.rk_wal.proofs.Taken.{EndsOver, are_last, keeps_rules, begins_due, later_above, due_above}
 use Rattle.rk_wal.proofs.OneMore.{parts}
 
 -- the last group of a log is a later one
@@ -97,14 +97,14 @@ differ flushed l whole each g h gs hs one two same =
     (ap (λ b. broken_behind flushed (cond b (later flushed l.second) []) [] l.first) (sym higher) ∙ whole.first) one in
     let second : h.group.first ≡ due_behind (flushed + 1) (later flushed l.first) = begins_due flushed (later flushed l.first) [] l.second h hs refl
     (ap (λ b. broken_behind flushed (cond b [] (later flushed l.first)) [] l.second) (sym higher) ∙ whole.second) two in
-    let above : flushed + 1 < due_behind (flushed + 1) (g ∷ gs) = due_above (flushed + 1) (flushed + 1) g gs (subst (All (λ x. flushed + 1 < group_end x.group)) one (later_above flushed l.first each)) in
+    let above : flushed + 1 < due_behind (flushed + 1) (g ∷ gs) = due_above (flushed + 1) (flushed + 1) g gs (subst (All (EndsOver (flushed + 1))) one (later_above flushed l.first each)) in
     let behind : h.group.first ≡ due_behind (flushed + 1) (g ∷ gs) = second ∙ ap (due_behind (flushed + 1)) one in
     omega (arith, same, first, above, behind)
 
 not_same : (a b : ℕ) → b ≤ a → (a ≡ b → ⊥) → b < a
 not_same a b le ne = omega (arith, le, ne)
 
--- the log that is written to, by the later groups of both, is taken last
+-- whether the second log is written to, and whether a log is taken last, by the later groups of both
 abbrev second_active : List Logged → List Logged → Bool
 second_active first second = not (is_empty second) && (is_empty first || begins_lower first second)
 
@@ -112,6 +112,7 @@ abbrev last_of_both : Bool → List Logged → List Logged → Bool
 last_of_both true first second = are_last first second
 last_of_both false first second = are_last second first
 
+-- the log that is written to is taken last
 active_last : (first second : List Logged) → ((g h : Logged) (gs hs : List Logged) → first ≡ g ∷ gs → second ≡ h ∷ hs → g.group.first ≡ h.group.first → ⊥)
     → last_of_both (second_active first second) first second ≡ true
 active_last [] [] others = refl
@@ -127,7 +128,8 @@ taken_last : (flushed : ℕ) (in_second : Bool) (l : LogsSeen) → last_of_both 
 taken_last flushed true l last = last
 taken_last flushed false l last = last
 
-due_beyond : (flushed : ℕ) (gs : List Logged) → All (λ g. flushed + 1 < group_end g.group) gs → flushed < due_behind (flushed + 1) gs
+-- what is due behind later groups is a number above those in tables
+due_beyond : (flushed : ℕ) (gs : List Logged) → All (EndsOver (flushed + 1)) gs → flushed < due_behind (flushed + 1) gs
 due_beyond flushed [] each = omega arith
 due_beyond flushed (g ∷ gs) each =
     let above : flushed + 1 < due_behind (flushed + 1) (g ∷ gs) = due_above (flushed + 1) (flushed + 1) g gs each in
@@ -138,8 +140,8 @@ record AreSettled (flushed : ℕ) (l : LogsSeen) : Type 0 where
   pub last : is_taken_last flushed (is_second_active flushed l) l ≡ true
   pub first_ends : (l.first ≡ []) ⊎ EndsLater flushed l.first
   pub second_ends : (l.second ≡ []) ⊎ EndsLater flushed l.second
-  pub first_above : All (λ g. flushed + 1 < group_end g.group) (later flushed l.first)
-  pub second_above : All (λ g. flushed + 1 < group_end g.group) (later flushed l.second)
+  pub first_above : All (EndsOver (flushed + 1)) (later flushed l.first)
+  pub second_above : All (EndsOver (flushed + 1)) (later flushed l.second)
 
 are_settled : (flushed : ℕ) (files : Files) (l : LogsSeen) → HaveLogs flushed files l → AreSettled flushed (record { first = kept flushed l.first; second = kept flushed l.second })
 are_settled flushed files l have =
@@ -153,8 +155,8 @@ are_settled flushed files l have =
           (λ g h gs hs one two. differ flushed l have.whole first_each g h gs hs (sym first.same ∙ one) (sym second.same ∙ two)));
       first_ends = first.ends;
       second_ends = second.ends;
-      first_above = subst (All (λ g. flushed + 1 < group_end g.group)) (sym first.same) (later_above flushed l.first first_each);
-      second_above = subst (All (λ g. flushed + 1 < group_end g.group)) (sym second.same) (later_above flushed l.second second_each);
+      first_above = subst (All (EndsOver (flushed + 1))) (sym first.same) (later_above flushed l.first first_each);
+      second_above = subst (All (EndsOver (flushed + 1))) (sym second.same) (later_above flushed l.second second_each);
     }
   where
     first_others : List Logged
@@ -167,11 +169,11 @@ settled_ready : (flushed : ℕ) (in_second : Bool) (l : LogsSeen) → is_taken_l
     → IsReady flushed in_second l (due_in flushed in_second l) × (flushed < due_in flushed in_second l)
 settled_ready flushed true l last are = (
   record { due = refl; taken_last = last; joins = ⊎_elim inl (λ ends. inr (joins_at flushed (later flushed l.first) l.second ends)) are.second_ends },
-  due_beyond flushed (later flushed l.first ++ later flushed l.second) (All-append (λ g. flushed + 1 < group_end g.group) (later flushed l.first) (later flushed l.second) are.first_above are.second_above),
+  due_beyond flushed (later flushed l.first ++ later flushed l.second) (All-append (EndsOver (flushed + 1)) (later flushed l.first) (later flushed l.second) are.first_above are.second_above),
 )
 settled_ready flushed false l last are = (
   record { due = refl; taken_last = last; joins = ⊎_elim inl (λ ends. inr (joins_at flushed (later flushed l.second) l.first ends)) are.first_ends },
-  due_beyond flushed (later flushed l.second ++ later flushed l.first) (All-append (λ g. flushed + 1 < group_end g.group) (later flushed l.second) (later flushed l.first) are.second_above are.first_above),
+  due_beyond flushed (later flushed l.second ++ later flushed l.first) (All-append (EndsOver (flushed + 1)) (later flushed l.second) (later flushed l.first) are.second_above are.first_above),
 )
 
 pub ready_when_opened : (files : Files) (before : StoreSeen) → store_of files ≡ Ok before →

@@ -13,13 +13,13 @@ use Rattle.rk_wal.specs.Following.{log_of, other_of, is_taken_last}
 use Rattle.rk_wal.proofs.Counted.{EndsAbove}
 use Rattle.rk_wal.proofs.Appended.{none_at, later_first, later_rest, later_same}
 
--- a group that breaks no rule leaves no gap, and is in turn
 four_parts : (a b c d : Bool) → (a || b || c || d) ≡ false → (a ≡ false) × (d ≡ false)
 four_parts false false false d e = (refl, e)
 four_parts true b c d e = absurd cc
 four_parts false true c d e = absurd cc
 four_parts false false true d e = absurd cc
 
+-- a group that breaks no rule leaves no gap, and is in turn
 pub keeps_rules : (flushed : ℕ) (others before : List Logged) (g : Logged) → breaks flushed others before g ≡ false
     → (is_gap before g ≡ false) × (is_out_of_turn flushed (others ++ later flushed before) g ≡ false)
 keeps_rules flushed others before g keeps =
@@ -54,24 +54,27 @@ begins_due flushed others before (x ∷ xs) g gs none whole is =
     (λ gone. begins_due flushed others (before ++ x ∷ []) xs g gs (later_same flushed before x gone ∙ none) parts.1 (sym (later_rest flushed x xs gone) ∙ is))
     (cases_Bool (is_later flushed x))
 
+-- the group ends above a number
+abbrev pub EndsOver : ℕ → Logged → Type 0
+EndsOver n g = n < group_end g.group
+
 -- the later ones of groups that end above their first number end above the number that is due first
-pub later_above : (flushed : ℕ) (gs : List Logged) → All EndsAbove gs → All (λ g. flushed + 1 < group_end g.group) (later flushed gs)
-later_above flushed [] each = All-nil (λ g. flushed + 1 < group_end g.group)
+pub later_above : (flushed : ℕ) (gs : List Logged) → All EndsAbove gs → All (EndsOver (flushed + 1)) (later flushed gs)
+later_above flushed [] each = All-nil (EndsOver (flushed + 1))
 later_above flushed (g ∷ gs) each =
     let more = later_above flushed gs (All-tail EndsAbove g gs each) in
     let here : g.group.first < group_end g.group = All-head EndsAbove g gs each in
     ⊎_elim
-    (λ there. subst (All (λ g. flushed + 1 < group_end g.group)) (sym (later_first flushed g gs there))
-    (All-cons (λ g. flushed + 1 < group_end g.group) g (later flushed gs) (omega (arith, here, ltb-true flushed (g.group.first) there)) more))
-    (λ gone. subst (All (λ g. flushed + 1 < group_end g.group)) (sym (later_rest flushed g gs gone)) more)
+    (λ there. subst (All (EndsOver (flushed + 1))) (sym (later_first flushed g gs there))
+    (All-cons (EndsOver (flushed + 1)) g (later flushed gs) (omega (arith, here, ltb-true flushed (g.group.first) there)) more))
+    (λ gone. subst (All (EndsOver (flushed + 1))) (sym (later_rest flushed g gs gone)) more)
     (cases_Bool (is_later flushed g))
 
 -- what is due behind groups that all end above a number
-pub due_above : (n due : ℕ) (g : Logged) (gs : List Logged) → All (λ h. n < group_end h.group) (g ∷ gs) → n < due_behind due (g ∷ gs)
-due_above n due g [] each = All-head (λ h. n < group_end h.group) g [] each
-due_above n due g (h ∷ hs) each = due_above n due h hs (All-tail (λ x. n < group_end x.group) g (h ∷ hs) each)
+pub due_above : (n due : ℕ) (g : Logged) (gs : List Logged) → All (EndsOver n) (g ∷ gs) → n < due_behind due (g ∷ gs)
+due_above n due g [] each = All-head (EndsOver n) g [] each
+due_above n due g (h ∷ hs) each = due_above n due h hs (All-tail (EndsOver n) g (h ∷ hs) each)
 
--- a log without later groups is in turn behind any others
 not_later : (flushed : ℕ) (x : Logged) (xs : List Logged) → later flushed (x ∷ xs) ≡ [] → (is_later flushed x ≡ false) × (later flushed xs ≡ [])
 not_later flushed x xs none = by (is_later flushed x) none
   where
@@ -87,6 +90,7 @@ breaks_alike flushed a b before x gone =
     away : List Logged → Bool
     away others = not (x.group.first == due_behind (flushed + 1) (others ++ later flushed before))
 
+-- a log without later groups breaks the same rules behind any others
 broken_alike : (flushed : ℕ) (a b before log : List Logged) → later flushed log ≡ [] → broken_behind flushed a before log ≡ broken_behind flushed b before log
 broken_alike flushed a b before [] none = refl
 broken_alike flushed a b before (x ∷ xs) none =
@@ -114,14 +118,14 @@ not_lower (g ∷ gs) [] last = refl
 not_lower (g ∷ gs) (h ∷ hs) last =
     le-ltb (h.group.first) (g.group.first) (omega (arith, ltb-true (g.group.first) (h.group.first) last))
 
--- they begin lower, or one of the two has none
+-- those that are taken before begin lower, or one of the two logs has none
 lower_or_none : (others own : List Logged) → are_last others own ≡ true
     → (begins_lower others own ≡ true) ⊎ ((begins_lower others own ≡ false) × ((others ≡ []) ⊎ (own ≡ [])))
 lower_or_none [] own last = inr (refl, inl refl)
 lower_or_none (g ∷ gs) [] last = inr (refl, inr refl)
 lower_or_none (g ∷ gs) (h ∷ hs) last = inl last
 
--- how the groups of both logs are tested, is how they are in turn
+-- both logs are tested behind lists of others as if they were behind those that are in turn before them
 record TestedInTurn (flushed : ℕ) (other log by_other by_log : List Logged) : Type 0 where
   pub before : broken_behind flushed by_other [] other ≡ broken_behind flushed [] [] other
   pub behind : broken_behind flushed by_log [] log ≡ broken_behind flushed (later flushed other) [] log
