@@ -1,14 +1,14 @@
 -- Along a run the history goes on.
-use Rattle.std.proofs.Common.{◌≡◌, ◌⊎◌, List, [], ◌∷◌, ◌++◌, refl, ap, sym, ◌∙◌, subst, arith, append-nil, append_assoc, inl, inr}
+use Rattle.std.proofs.Common.{◌≡◌, ◌⊎◌, Bool, List, [], ◌∷◌, ◌++◌, refl, ap, sym, ◌∙◌, subst, arith, append-nil, append_assoc, inl, inr, ⊎_elim}
 use Rattle.rk_model.specs.Operations.{History}
 use Rattle.rk_model.specs.Histories.{AreCommits}
 use Rattle.rk_model.specs.declared.op.Op.{Op}
 use Rattle.rk_machine.specs.State.{State}
-use Rattle.rk_machine.specs.Events.{Event, Commit, Snap, Release, OpenAt, Moves, Close, CloseCore, Reply}
+use Rattle.rk_machine.specs.Events.{Event, Commit, Sync, Snap, Release, OpenAt, Moves, Close, CloseCore, Reply}
 use Rattle.rk_machine.specs.Commits.{after_commit}
-use Rattle.rk_machine.specs.Machine.{Done, Answers, Step}
+use Rattle.rk_machine.specs.Machine.{Done, Step, counted}
 use Rattle.rk_machine.specs.Runs.{last_state, GoesOn, HistoriesGoOn}
-use Rattle.rk_machine.proofs.Steps.{stays_or_done, history_of_commit}
+use Rattle.rk_machine.proofs.Steps.{LeavesHistory, leaves_or_done, history_of_commit}
 
 stays : (h : History) → GoesOn h h
 stays h = record { more = ([], sym (append-nil h)); commits = λ all. all }
@@ -31,25 +31,27 @@ keeps : (m n : State) → n.history ≡ m.history → GoesOn m.history n.history
 keeps m n is = subst (λ h. GoesOn m.history h) (sym is) (stays m.history)
 
 -- what is done by a commit of some operations, and by any other event
-committed : (m : State) (op : Op) (ops : List Op) (m' : State) → m' ≡ after_commit (op ∷ ops) m → GoesOn m.history m'.history
-committed m op ops m' done = subst (λ h. GoesOn m.history h) (sym (history_of_commit m (op ∷ ops) m' done)) (commits m.history op ops)
+committed : (m : State) (op : Op) (ops : List Op) (sync : Bool) (m' : State) → m' ≡ after_commit (op ∷ ops) sync m → GoesOn m.history m'.history
+committed m op ops sync m' done = subst (λ h. GoesOn m.history h) (sym (history_of_commit m (op ∷ ops) sync m' done)) (commits m.history op ops)
 
-done_on : (m : State) (event : Event) (reply : Reply) (m' : State) → (m' ≡ m) ⊎ Done m event reply m' → (event ≡ Commit [] → m' ≡ m) → GoesOn m.history m'.history
-done_on m event reply m' (inl same) empty = keeps m m' (ap (λ n. n.history) same)
-done_on m (Commit []) reply m' (inr done) empty = keeps m m' (ap (λ n. n.history) (empty refl))
-done_on m (Commit (op ∷ ops)) reply m' (inr done) empty = committed m op ops m' done.1
-done_on m Snap reply m' (inr done) empty = keeps m m' (ap (λ n. n.history) done.1)
-done_on m (Release number) reply m' (inr done) empty = keeps m m' (ap (λ n. n.history) done.1.1)
-done_on m (OpenAt name at options) reply m' (inr done) empty = keeps m m' (ap (λ n. n.history) done.1)
-done_on m (Moves name move) reply m' (inr done) empty = keeps m m' (ap (λ n. n.history) done.3)
-done_on m (Close name) reply m' (inr done) empty = keeps m m' (ap (λ n. n.history) done.1)
-done_on m CloseCore reply m' (inr done) empty = keeps m m' (ap (λ n. n.history) done.1)
+others : (m n : State) → LeavesHistory m n ⊎ (n.history ≡ m.history) → GoesOn m.history n.history
+others m n (inl leaves) = keeps m n leaves.history
+others m n (inr is) = keeps m n is
 
 -- a commit without operations is refused, and leaves all
 step_on : (m : State) (event : Event) (reply : Reply) (m' : State) → Step m event reply m' → GoesOn m.history m'.history
-step_on m event reply m' s = done_on m event reply m' (stays_or_done m event reply m' s) empty where
-  empty : event ≡ Commit [] → m' ≡ m
-  empty is = (subst (λ e. Answers m e reply m') is s.answer).1
+step_on m (Commit [] sync) reply m' s = keeps m m' (ap (λ n. n.history) s.answer.1)
+step_on m (Commit (op ∷ ops) sync) reply m' s = elim (leaves_or_done m (Commit (op ∷ ops) sync) reply m' s) [
+  | inl leaves ↦ keeps m m' leaves.history
+  | inr done ↦ committed (counted m'.faults m) op ops sync m' done.1
+]
+step_on m Sync reply m' s = others m m' (⊎_elim (λ leaves. inl leaves) (λ done. inr (ap (λ n. n.history) done.1)) (leaves_or_done m Sync reply m' s))
+step_on m Snap reply m' s = others m m' (⊎_elim (λ leaves. inl leaves) (λ done. inr (ap (λ n. n.history) done.1)) (leaves_or_done m Snap reply m' s))
+step_on m (Release number) reply m' s = others m m' (⊎_elim (λ leaves. inl leaves) (λ done. inr (ap (λ n. n.history) done.1.1)) (leaves_or_done m (Release number) reply m' s))
+step_on m (OpenAt name at options) reply m' s = others m m' (⊎_elim (λ leaves. inl leaves) (λ done. inr (ap (λ n. n.history) done.1)) (leaves_or_done m (OpenAt name at options) reply m' s))
+step_on m (Moves name move) reply m' s = others m m' (⊎_elim (λ leaves. inl leaves) (λ done. inr (ap (λ n. n.history) done.3)) (leaves_or_done m (Moves name move) reply m' s))
+step_on m (Close name) reply m' s = others m m' (⊎_elim (λ leaves. inl leaves) (λ done. inr (ap (λ n. n.history) done.1)) (leaves_or_done m (Close name) reply m' s))
+step_on m CloseCore reply m' s = others m m' (⊎_elim (λ leaves. inl leaves) (λ done. inr (ap (λ n. n.history) done.1)) (leaves_or_done m CloseCore reply m' s))
 
 pub goes_on : HistoriesGoOn
 goes_on m [] run = stays m.history

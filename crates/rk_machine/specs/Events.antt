@@ -1,5 +1,5 @@
 -- What is done, and what is answered.
-use Rattle.std.specs.Prelude.{ℕ, List, Option}
+use Rattle.std.specs.Prelude.{ℕ, Bool, List, Option}
 use Rattle.rk_model.specs.Moves.{Move}
 use Rattle.rk_model.specs.declared.op.Op.{Op}
 use Rattle.rk_model.specs.declared.options.IterOptions.{IterOptions}
@@ -9,7 +9,8 @@ use Rattle.rk_machine.specs.State.{Open}
 
 -- One call, with the names that the caller gives to iterators
 pub data Event : Type 0 where
-  Commit : (ops : List Op) → Event
+  Commit : (ops : List Op) (sync : Bool) → Event
+  Sync : Event
   Snap : Event
   Release : (number : ℕ) → Event
   OpenAt : (name : List ℕ) (at : Option ℕ) (options : IterOptions) → Event
@@ -20,6 +21,7 @@ pub data Event : Type 0 where
 -- A call of the store is refused with the store's error, and a move with that of a source.
 pub data Reply : Type 0 where
   Committed : (first last : ℕ) → Reply
+  Synced : (number : ℕ) → Reply
   Number : (number : ℕ) → Reply
   Released : Reply
   Opened : (number : ℕ) → Reply

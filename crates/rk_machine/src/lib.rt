@@ -11,5 +11,5 @@ mod limits;
 mod shape;
 
 pub use laws::the_history_goes_on;
-pub use limits::{MOST_MEMTABLE_BYTES, MOST_NUMBER, MOST_SNAPSHOTS};
+pub use limits::{MOST_MEMTABLE_BYTES, MOST_NUMBER, MOST_PENDING_BYTES, MOST_SNAPSHOTS};
 pub use shape::Shape;

@@ -1,5 +1,5 @@
 -- Lines on batches, and commits: what they do to a session, and to the state that it stands for.
-use Rattle.std.proofs.Common.{◌≡◌, ℕ, ◌+◌, false, List, [], ◌∷◌, ◌++◌, map, length, set, get_or, arith, ap, sym, ◌∙◌, refl, subst, length-append, append-nil, IsPermutation, inl, inr, ⊎_elim}
+use Rattle.std.proofs.Common.{◌≡◌, ℕ, false, List, [], ◌∷◌, ◌++◌, map, length, set, get_or, None, arith, ap, sym, ◌∙◌, refl, subst, length-append, append-nil, IsPermutation, inl, inr, ⊎_elim}
 use Rattle.std.proofs.Math.Seq.{get_or-append_seam, set-append_seam}
 use Rattle.std.specs.Prelude.{◌≢◌, unwrap_or, Ok, Err}
 use Rattle.rk_model.specs.Named.{named, with_named}
@@ -8,10 +8,11 @@ use Rattle.rk_batch.specs.Checks.{Check, AllPass, IsRefusal, checks}
 use Rattle.rk_batch.specs.Checks.{IsFirst as IsFirstOf}
 use Rattle.rk_batch.specs.declared.error.BatchError.{BatchError}
 use Rattle.rk_batch.specs.declared.error.BatchError.TheVariants.{Memory}
+use Rattle.rk_machine.specs.State.{State}
 use Rattle.rk_machine.specs.Events.{Commit as commits, Reply}
 use Rattle.rk_machine.specs.Machine.{Step}
-use Rattle.rk_core.specs.Standing.{StandsFor as CoreStandsFor}
-use Rattle.rk_core.specs.Answers.{IsStep}
+use Rattle.rk_memstore.specs.Standing.{StandsInMemory}
+use Rattle.rk_memstore.specs.Answers.{StepsFrom}
 use Rattle.rk_script.specs.Naming.{is_called}
 use Rattle.rk_program.specs.Replies.{refused_text, Tells}
 use Rattle.rk_program.specs.Standing.{StandsFor, DidSo, AreAt, IsPlaceOf, IsGiven, batches, numbers}
@@ -56,11 +57,12 @@ IsPlaceOf-new ws new name w i absent called empty more is = rw (more, is) (at_en
 -- An operation that is given to a batch.
 
 pub stands_with_batch : {V : Type 0} (old new : Session V) (w : List ℕ) (ops : List Op) (s : SessionState) → StandsFor old s
-    → new.core ≡ old.core → new.snapshots.items ≡ old.snapshots.items → new.iterators.items ≡ old.iterators.items
+    → new.mem ≡ old.mem → new.snapshots.items ≡ old.snapshots.items → new.iterators.items ≡ old.iterators.items
     → batches new.writers.items ≡ with_named w ops (batches old.writers.items)
     → StandsFor new (with_batch w ops s)
-stands_with_batch old new w ops s stands same_core same_snapshots same_iterators put = record {
-  core = subst (λ c. CoreStandsFor c s.state) (sym same_core) stands.core;
+stands_with_batch old new w ops s stands same_mem same_snapshots same_iterators put = record {
+  mem = subst (λ c. StandsInMemory c s.state) (sym same_mem) stands.mem;
+  running = stands.running;
   batches = put ∙ ap (with_named w ops) stands.batches;
   snapshots = ap numbers same_snapshots ∙ stands.snapshots;
   live = stands.live;
@@ -75,10 +77,10 @@ is_batch old w mid i x s stands place is = ap writer_batch is ∙ (place.batch x
 pub added_does : {T V : Type 0} (u : T) (old new : Session V) (w : List ℕ) (o : Op) (mid : List Writer) (i : ℕ) (x y : Writer) (before now : List ℕ) (s : SessionState)
     → StandsFor old s → IsPlaceOf old.writers.items mid w i → x ≡ get_or mid i x → y.name ≡ x.name
     → IsGiven {T = T} x.batch y.batch o (Ok u)
-    → new.core ≡ old.core → new.snapshots.items ≡ old.snapshots.items → new.iterators.items ≡ old.iterators.items
+    → new.mem ≡ old.mem → new.snapshots.items ≡ old.snapshots.items → new.iterators.items ≡ old.iterators.items
     → new.writers.items ≡ set mid i y → now ≡ before
     → DidSo (DoesOp s w o) before now new
-added_does {T = T} u old new w o mid i x y before now s stands place is same_name given same_core same_snapshots same_iterators put said =
+added_does {T = T} u old new w o mid i x y before now s stands place is same_name given same_mem same_snapshots same_iterators put said =
     let batch : x.batch ≡ batch_of w s = is_batch old w mid i x s stands place is in
     let called : y.name ≡ w = same_name ∙ (ap writer_name is ∙ place.called x) in
     let P : List Op → Type 0 = λ ops. AllPass (checks ops o) in
@@ -86,7 +88,7 @@ added_does {T = T} u old new w o mid i x y before now s stands place is same_nam
       [],
       with_batch w (batch_of w s ++ o ∷ []) s,
       inl (passes, refl, refl),
-      stands_with_batch old new w (batch_of w s ++ o ∷ []) s stands same_core same_snapshots same_iterators
+      stands_with_batch old new w (batch_of w s ++ o ∷ []) s stands same_mem same_snapshots same_iterators
           (ap batches put ∙ (place.put y called ∙ ap (λ b. with_named w b (batches old.writers.items)) (given.added ∙ ap (λ b. b ++ o ∷ []) batch))),
       said ∙ sym (append-nil before),
     )
@@ -97,10 +99,10 @@ the_first ops e refusal other = ⊎_elim (λ (h : e ≡ Memory). absurd (other h
 pub refused_op_does : {V : Type 0} (T : Type 0) (old new : Session V) (w : List ℕ) (o : Op) (mid : List Writer) (i : ℕ) (x y : Writer) (e : BatchError) (before now : List ℕ) (s : SessionState)
     → StandsFor old s → IsPlaceOf old.writers.items mid w i → x ≡ get_or mid i x → y.name ≡ x.name
     → IsGiven {T = T} x.batch y.batch o (Err e)
-    → new.core ≡ old.core → new.snapshots.items ≡ old.snapshots.items → new.iterators.items ≡ old.iterators.items
+    → new.mem ≡ old.mem → new.snapshots.items ≡ old.snapshots.items → new.iterators.items ≡ old.iterators.items
     → new.writers.items ≡ set mid i y → e ≢ Memory → now ≡ before ++ refused_text w e
     → DidSo (DoesOp s w o) before now new
-refused_op_does T old new w o mid i x y e before now s stands place is same_name given same_core same_snapshots same_iterators put other said =
+refused_op_does T old new w o mid i x y e before now s stands place is same_name given same_mem same_snapshots same_iterators put other said =
     let batch : x.batch ≡ batch_of w s = is_batch old w mid i x s stands place is in
     let called : y.name ≡ w = same_name ∙ (ap writer_name is ∙ place.called x) in
     let P : List Op → Type 0 = λ ops. IsFirstOf (checks ops o) e in
@@ -108,7 +110,7 @@ refused_op_does T old new w o mid i x y e before now s stands place is same_name
       refused_text w e,
       with_batch w (batch_of w s) s,
       inr (e, first, refl, refl),
-      stands_with_batch old new w (batch_of w s) s stands same_core same_snapshots same_iterators
+      stands_with_batch old new w (batch_of w s) s stands same_mem same_snapshots same_iterators
           (ap batches put ∙ (place.put y called ∙ ap (λ b. with_named w b (batches old.writers.items)) (given.same ∙ batch))),
       said,
     )
@@ -117,27 +119,28 @@ refused_op_does T old new w o mid i x y e before now s stands place is same_name
 
 pub commit_does : {V : Type 0} (old new : Session V) (w : List ℕ) (mid : List Writer) (i : ℕ) (x y : Writer) (reply : Reply) (before now : List ℕ) (s : SessionState)
     → StandsFor old s → IsPlaceOf old.writers.items mid w i → x ≡ get_or mid i x → y.name ≡ x.name → y.batch ≡ left_by reply x.batch
-    → IsStep old.core new.core (commits x.batch) reply
+    → ((m : State) → m.halted ≡ None → StandsInMemory old.mem m → StepsFrom m new.mem (commits x.batch false) reply)
     → new.snapshots.items ≡ old.snapshots.items → new.iterators.items ≡ old.iterators.items
     → new.writers.items ≡ set mid i y → Tells before now w reply
     → DidSo (DoesCommit s w) before now new
 commit_does old new w mid i x y reply before now s stands place is same_name left steps same_snapshots same_iterators put tells =
     let batch : x.batch ≡ batch_of w s = is_batch old w mid i x s stands place is in
     let called : y.name ≡ w = same_name ∙ (ap writer_name is ∙ place.called x) in
-    let stepped = steps s.state stands.core in
+    let stepped = steps s.state stands.running stands.mem in
     let m = stepped.0 in
-    let step : Step s.state (commits (batch_of w s)) reply m = subst (λ ops. Step s.state (commits ops) reply m) batch stepped.1 in (
+    let step : Step s.state (commits (batch_of w s) false) reply m = subst (λ ops. Step s.state (commits ops false) reply m) batch stepped.1 in (
       tells.0,
       record { state = m; batches = with_named w (left_by reply (batch_of w s)) s.batches; snapshots = s.snapshots },
       (reply, step, tells.1, refl, refl),
       record {
-        core = stepped.2;
+        mem = stepped.2;
+        running = stepped.3 ∙ stands.running;
         batches = ap batches put ∙ (place.put y called ∙ (ap (λ b. with_named w b (batches old.writers.items)) (left ∙ ap (left_by reply) batch)
             ∙ ap (with_named w (left_by reply (batch_of w s))) stands.batches));
         snapshots = ap numbers same_snapshots ∙ stands.snapshots;
-        live = subst (λ l. IsPermutation (map (λ p. p.1) s.snapshots) l) (sym (commit_live s.state (batch_of w s) reply m step)) stands.live;
+        live = subst (λ l. IsPermutation (map (λ p. p.1) s.snapshots) l) (sym (commit_live s.state (batch_of w s) false reply m step)) stands.live;
         iterators = subst (λ is. AreAt is m.iterators) (sym same_iterators)
-            (subst (λ os. AreAt old.iterators.items os) (sym (commit_iterators s.state (batch_of w s) reply m step)) stands.iterators);
+            (subst (λ os. AreAt old.iterators.items os) (sym (commit_iterators s.state (batch_of w s) false reply m step)) stands.iterators);
       },
       tells.2,
     )

@@ -1,5 +1,5 @@
 -- Worked examples: steps of the machine, and small files with what is written for them and the states between.
-use Rattle.std.proofs.Common.{◌≡◌, ℕ, List, [], ◌∷◌, Some, None, Ok, length, ◌*◌, refl, arith, inl, inr, codes}
+use Rattle.std.proofs.Common.{◌≡◌, ℕ, ◌≤◌, false, List, [], ◌∷◌, Some, None, Ok, length, ◌*◌, refl, arith, inl, inr, codes}
 use Rattle.std.specs.Fmt.{digits}
 use Rattle.rk_key.specs.Keys.{IsKey}
 use Rattle.rk_model.specs.Moves.{opened_over, after_move}
@@ -11,22 +11,28 @@ use Rattle.rk_batch.specs.declared.error.BatchError.TheVariants.{EmptySpan}
 use Rattle.rk_outside.specs.declared.error.StoreError.TheVariants.{EmptyBatch, MemFull}
 use Rattle.rk_machine.specs.State.{State, start, Open, shape_of}
 use Rattle.rk_machine.specs.Events.{Event as MachineEvent, Commit as Commits, Release as Releases, Reply, Committed, Number, Released, Opened, Stands, Closed, Refused}
-use Rattle.rk_machine.specs.Machine.{IsAllowed, Answers, Step}
+use Rattle.rk_machine.specs.Faults.{is_fault, RoseIf}
+use Rattle.rk_machine.specs.Machine.{IsAllowed, Answers, Step, counted}
 use Rattle.rk_program.specs.Replies.{reply_text, shape_text}
 use Rattle.rk_script.specs.Script.{script}
 use Rattle.rk_script.specs.declared.line.Event.TheVariants.{Put, RangeSet, Commit, Snap, Release, Iter, First, Close}
 use Rattle.rk_script.specs.declared.line.Line.{Line}
 use Rattle.rk_program.specs.Transcript.{SessionState, begin, IsTranscript}
 
-step : {m : State} {event : MachineEvent} {reply : Reply} {m' : State} → IsAllowed m event → Answers m event reply m' → Step m event reply m'
-step allowed answer = record { allowed = allowed; answer = answer }
+-- no fault
+none : 0 ≤ 0
+none = omega arith
 
-a_commit_of_nothing_is_refused : Step start (Commits []) (Refused EmptyBatch) start
-a_commit_of_nothing_is_refused = step tt (refl, refl)
+step : {m : State} {event : MachineEvent} {reply : Reply} {m' : State} → IsAllowed m event → m.faults ≤ m'.faults → RoseIf (is_fault reply) m.faults m'.faults
+    → Answers (counted m'.faults m) event reply m' → Step m event reply m'
+step allowed later told answer = record { allowed = allowed; count = record { later = later; told = told }; answer = answer }
+
+a_commit_of_nothing_is_refused : Step start (Commits [] false) (Refused EmptyBatch) start
+a_commit_of_nothing_is_refused = step tt none tt (refl, refl)
 
 -- two snapshots may have one number, and one of them is given up at a time
 a_release_takes_one_of_two : Step (record start { live = 0 ∷ 0 ∷ [] }) (Releases 0) Released (record start { live = 0 ∷ [] })
-a_release_takes_one_of_two = step tt (inl (refl, (([], 0 ∷ [], refl, refl), refl)))
+a_release_takes_one_of_two = step tt none tt (inl (refl, (([], 0 ∷ [], refl, refl), refl)))
 
 abbrev no_options : IterOptions
 no_options = record { lower = None; upper = None; mask = None }
@@ -52,7 +58,7 @@ moved = record { number = 0; view = after_move (opened_over [] no_options) move.
 -- the state with these snapshots and iterators, where no commit was done
 abbrev with_these : List (List ℕ × ℕ) → List ℕ → List (List ℕ × Open) → SessionState
 with_these snapshots live iterators = record {
-  state = record { history = []; live = live; iterators = iterators; memory = record { active = 0; frozen = 0 } };
+  state = record start { live = live; iterators = iterators };
   batches = (codes "w", []) ∷ [];
   snapshots = snapshots;
 }
@@ -64,33 +70,33 @@ snapshots_are_told = (
   _,
   _,
   with_these [] [] [],
-  (Refused EmptyBatch, step tt (refl, refl), refl, refl, refl),
+  (Refused EmptyBatch, step tt none tt (refl, refl), refl, refl, refl),
   (
     _,
     _,
     with_these ((codes "s", 0) ∷ []) (0 ∷ []) [],
-    (Number 0, step tt (inl (refl, refl)), refl, refl, refl),
+    (Number 0, step tt none tt (inl (refl, refl)), refl, refl, refl),
     (
       _,
       _,
       with_these ((codes "s", 0) ∷ (codes "t", 0) ∷ []) (0 ∷ 0 ∷ []) [],
-      (Number 0, step tt (inl (refl, refl)), refl, refl, refl),
+      (Number 0, step tt none tt (inl (refl, refl)), refl, refl, refl),
       (
         _,
         _,
         with_these ((codes "t", 0) ∷ []) (0 ∷ []) [],
-        (0, refl, (Released, step tt (inl (refl, (([], 0 ∷ [], refl, refl), refl))), refl, refl, refl)),
+        (0, refl, (Released, step tt none tt (inl (refl, (([], 0 ∷ [], refl, refl), refl))), refl, refl, refl)),
         (
           _,
           _,
           with_these ((codes "t", 0) ∷ []) (0 ∷ []) ((codes "i", fresh) ∷ []),
-          (Some 0, (refl, refl), (Opened 0, step refl (inl (refl, refl)), refl, refl, refl)),
+          (Some 0, (refl, refl), (Opened 0, step refl none tt (inl (refl, refl)), refl, refl, refl)),
           (
             _,
             _,
             with_these ((codes "t", 0) ∷ []) (0 ∷ []) ((codes "i", moved) ∷ []),
-            (Stands moved, step refl (inl (fresh, refl, refl, refl)), refl, refl, refl),
-            (_, _, with_these ((codes "t", 0) ∷ []) (0 ∷ []) [], (Closed, step refl (inl (refl, refl)), refl, refl, refl), (refl, refl), refl),
+            (Stands moved, step refl none tt (inl (fresh, refl, refl, refl)), refl, refl, refl),
+            (_, _, with_these ((codes "t", 0) ∷ []) (0 ∷ []) [], (Closed, step refl none tt (inl (refl, refl)), refl, refl, refl), (refl, refl), refl),
             refl,
           ),
           refl,
@@ -127,7 +133,12 @@ moved_at_1 = record { number = 1; view = after_move (opened_over (record { op = 
 -- the state with this history, batch of w, and iterators
 abbrev with_batch_of : List (List Op) → List Op → List (List ℕ × Open) → SessionState
 with_batch_of history batch iterators = record {
-  state = record { history = history; live = []; iterators = iterators; memory = record { active = length history * 9; frozen = 0 } };
+  state = record start {
+    history = history;
+    iterators = iterators;
+    memory = record { active = length history * 9; frozen = 0 };
+    log = record { synced = 0; pending = length history * 9; lost = None };
+  };
   batches = (codes "w", batch) ∷ [];
   snapshots = [];
 }
@@ -155,13 +166,13 @@ point_is_told = (
       _,
       _,
       with_batch_of ((put ∷ []) ∷ []) [] [],
-      (Committed 1 1, step tt (inl (refl, refl)), refl, refl, refl),
+      (Committed 1 1, step tt none tt (inl (refl, refl)), refl, refl, refl),
       (
         _,
         _,
         with_batch_of ((put ∷ []) ∷ []) [] ((codes "i", fresh_at_1) ∷ []),
-        (None, refl, (Opened 1, step refl (inl (refl, refl)), refl, refl, refl)),
-        (_, _, with_batch_of ((put ∷ []) ∷ []) [] ((codes "i", moved_at_1) ∷ []), (Stands moved_at_1, step refl (inl (fresh_at_1, refl, refl, refl)), refl, refl, refl), (refl, refl), refl),
+        (None, refl, (Opened 1, step refl none tt (inl (refl, refl)), refl, refl, refl)),
+        (_, _, with_batch_of ((put ∷ []) ∷ []) [] ((codes "i", moved_at_1) ∷ []), (Stands moved_at_1, step refl none tt (inl (fresh_at_1, refl, refl, refl)), refl, refl, refl), (refl, refl), refl),
         refl,
       ),
       refl,

@@ -1,5 +1,5 @@
 -- Lines on iterators: what they do to a session, and to the state that it stands for.
-use Rattle.std.proofs.Common.{◌≡◌, ℕ, ◌<◌, false, true, List, [], ◌∷◌, ◌++◌, map, length, take, set, zero, suc, remove, get_or, IsPermutation, Option, Some, None, arith, ap, sym, ◌∙◌, refl, subst, inl}
+use Rattle.std.proofs.Common.{◌≡◌, ℕ, ◌<◌, false, List, [], ◌∷◌, ◌++◌, map, length, take, set, zero, suc, remove, get_or, Option, Some, None, arith, ap, sym, ◌∙◌, refl, subst, inl}
 use Rattle.std.specs.Option.{option_map, option_map_or, option_and_then}
 use Rattle.std.specs.Prelude.{if◌then◌else◌, Bool, Result, Ok, IsSome, codes}
 use Rattle.rk_outside.specs.declared.error.SourceError.{SourceError}
@@ -10,7 +10,7 @@ use Rattle.rk_model.specs.declared.cursor.Cursor.{Cursor}
 use Rattle.rk_model.specs.declared.cursor.Cursor.TheVariants.{Fresh, Start, At, End}
 use Rattle.rk_model.specs.declared.op.Entry.{Entry}
 use Rattle.rk_model.specs.Named.{named, with_named}
-use Rattle.rk_model.specs.Operations.{entries, last}
+use Rattle.rk_model.specs.Operations.{entries}
 use Rattle.rk_model.specs.Spans.{same_bytes}
 use Rattle.rk_model.specs.declared.options.IterOptions.{IterOptions}
 use Rattle.rk_laws.specs.SameCells.{KeyBounds, SeeksKey}
@@ -18,10 +18,9 @@ use Rattle.rk_mem.specs.Memory.{Pinned}
 use Rattle.rk_machine.specs.State.{State, Open}
 use Rattle.rk_machine.specs.Events.{OpenAt, Moves as moves, Close as closes, Opened, Stands, Closed}
 use Rattle.rk_machine.specs.Iterators.{without_named, moved_on, opened}
-use Rattle.rk_machine.specs.Machine.{Step}
-use Rattle.rk_core.specs.Standing.{StandsFor as CoreStandsFor}
-use Rattle.rk_core.specs.Answers.{Pins}
-use Rattle.rk_core.proofs.Steps.{step_goes_on}
+use Rattle.rk_memstore.specs.Standing.{MemSeen, StandsInMemory}
+use Rattle.rk_memstore.specs.Answers.{Pins}
+use Rattle.rk_memstore.proofs.Steps.{step_goes_on}
 use Rattle.rk_iter.specs.Iterating.{Iterating, Moves}
 use Rattle.rk_iter_laws.specs.Showing.{IsAt, opened_on}
 use Rattle.rk_iter_laws.proofs.Showing.{opens_alike, moves_alike}
@@ -110,8 +109,8 @@ more_at (x ∷ its) (o ∷ os) y name o' at called new = (at.0, at.1, more_at it
 abbrev with_iterators : SessionState → List (List ℕ × Open) → SessionState
 with_iterators s os = record s { state = record s.state { iterators = os } }
 
-core_with : {V : Type 0} (session : Session V) (m : State) (os : List (List ℕ × Open)) → CoreStandsFor session.core m → CoreStandsFor session.core (record m { iterators = os })
-core_with session m os stands = record {
+mem_with : (c : MemSeen) (m : State) (os : List (List ℕ × Open)) → StandsInMemory c m → StandsInMemory c (record m { iterators = os })
+mem_with c m os stands = record {
   commits = stands.commits;
   keyed = stands.keyed;
   agrees = stands.agrees;
@@ -122,10 +121,11 @@ core_with session m os stands = record {
 }
 
 -- a session whose iterators alone change
-stands_with : {V : Type 0} (old new : Session V) (s : SessionState) (os : List (List ℕ × Open)) → StandsFor old s → new.core ≡ old.core
+stands_with : {V : Type 0} (old new : Session V) (s : SessionState) (os : List (List ℕ × Open)) → StandsFor old s → new.mem ≡ old.mem
     → new.writers.items ≡ old.writers.items → new.snapshots.items ≡ old.snapshots.items → AreAt new.iterators.items os → StandsFor new (with_iterators s os)
-stands_with old new s os stands same_core same_writers same_snapshots at = record {
-  core = subst (λ c. CoreStandsFor c (record s.state { iterators = os })) (sym same_core) (core_with old s.state os stands.core);
+stands_with old new s os stands same_mem same_writers same_snapshots at = record {
+  mem = subst (λ c. StandsInMemory c (record s.state { iterators = os })) (sym same_mem) (mem_with old.mem s.state os stands.mem);
+  running = stands.running;
   batches = ap batches same_writers ∙ stands.batches;
   snapshots = ap numbers same_snapshots ∙ stands.snapshots;
   live = stands.live;
@@ -136,14 +136,14 @@ stands_with old new s os stands same_core same_writers same_snapshots at = recor
 
 pub open_does : {V : Type 0} (old new : Session V) (name : List ℕ) (at : Option (List ℕ)) (options : IterOptions) (time : Option ℕ) (pins : Pinned) (it : OpenIterator) (before now : List ℕ) (s : SessionState)
     → StandsFor old s → is_called name (map iterator_name old.iterators.items) ≡ false → IsTime s at time
-    → ((m : State) → CoreStandsFor old.core m → Pins m time (Ok pins))
-    → KeyBounds options → new.core ≡ old.core
+    → ((m : State) → StandsInMemory old.mem m → Pins m time (Ok pins))
+    → KeyBounds options → new.mem ≡ old.mem
     → new.writers.items ≡ old.writers.items → new.snapshots.items ≡ old.snapshots.items → new.iterators.items ≡ old.iterators.items ++ it ∷ []
     → it.name ≡ name → it.iter ≡ opened_on pins options → Tells before now name (Opened pins.number)
     → DidSo (DoesOpening s name at options) before now new
-open_does old new name at options time pins it before now s stands free is_time pinned bounds same_core same_writers same_snapshots more called is tells =
+open_does old new name at options time pins it before now s stands free is_time pinned bounds same_mem same_writers same_snapshots more called is tells =
     let h = s.state.history in
-    let (not_due, number, shows) = pinned s.state stands.core in
+    let (not_due, number, shows) = pinned s.state stands.mem in
     let o = opened s.state time options in
     let here : IsAt (opened_on pins options) (record { number = pins.number; view = opened_over (upto pins.number (entries h)) options }) =
     opens_alike pins (upto pins.number (entries h)) options shows.differ (shows.cells options bounds) in
@@ -157,13 +157,13 @@ open_does old new name at options time pins it before now s stands free is_time 
         is_time,
         (
           Opened pins.number,
-          step_goes_on s.state (OpenAt name time options) (Opened pins.number) _ none not_due (inl (ap Opened number, refl)),
+          step_goes_on s.state (OpenAt name time options) (Opened pins.number) _ refl refl none not_due (inl (ap Opened number, refl)),
           tells.1,
           refl,
           refl,
         ),
       ),
-      stands_with old new s (s.state.iterators ++ (name, o) ∷ []) stands same_core same_writers same_snapshots
+      stands_with old new s (s.state.iterators ++ (name, o) ∷ []) stands same_mem same_writers same_snapshots
           (subst (λ is. AreAt is (s.state.iterators ++ (name, o) ∷ [])) (sym more) (more_at old.iterators.items s.state.iterators it name o stands.iterators called there)),
       tells.2,
     )
@@ -196,11 +196,11 @@ is_there (Some b) a is = refl
 
 pub move_does : {V : Type 0} (old new : Session V) (name : List ℕ) (i : ℕ) (it y : OpenIterator) (move : Move) (there : Bool) (answer : Result Bool SourceError) (called before now : List ℕ) (s : SessionState)
     → StandsFor old s → IsFirst iterator_name old.iterators.items name i → it ≡ get_or old.iterators.items i it
-    → new.core ≡ old.core → new.writers.items ≡ old.writers.items → new.snapshots.items ≡ old.snapshots.items → new.iterators.items ≡ set old.iterators.items i y
+    → new.mem ≡ old.mem → new.writers.items ≡ old.writers.items → new.snapshots.items ≡ old.snapshots.items → new.iterators.items ≡ set old.iterators.items i y
     → y.name ≡ it.name → answer ≡ Ok there → Moves it.iter y.iter move answer → SeeksKey move
     → called ≡ name → now ≡ before ++ lent_text called y.iter
     → DidSo (DoesMove s name move) before now new
-move_does old new name i it y move there answer called before now s stands first is same_core same_writers same_snapshots put same_name well by_moving seeks under said =
+move_does old new name i it y move there answer called before now s stands first is same_mem same_writers same_snapshots put same_name well by_moving seeks under said =
     let here = found_at old.iterators.items s.state.iterators name i it stands.iterators first.within first.first (first.here it) in
     let at : IsAt it.iter here.open_it = subst (λ k. IsAt k.iter here.open_it) (sym is) here.at in
     let o = moved_on here.open_it move in
@@ -210,12 +210,12 @@ move_does old new name i it y move there answer called before now s stands first
       with_iterators s (with_named name o s.state.iterators),
       (
         Stands o,
-        record { allowed = is_there (named name s.state.iterators) here.open_it here.found; answer = inl (here.open_it, here.found, refl, refl) },
+        step_goes_on s.state (moves name move) (Stands o) _ refl refl (is_there (named name s.state.iterators) here.open_it here.found) refl (inl (here.open_it, here.found, refl, refl)),
         refl,
         refl,
         refl,
       ),
-      stands_with old new s (with_named name o s.state.iterators) stands same_core same_writers same_snapshots
+      stands_with old new s (with_named name o s.state.iterators) stands same_mem same_writers same_snapshots
           (subst (λ is. AreAt is (with_named name o s.state.iterators)) (sym put)
           (set_at old.iterators.items s.state.iterators name i it y o stands.iterators first.within first.first (first.here it) y_called after)),
       said ∙ (ap (λ n. before ++ lent_text n y.iter) under ∙ ap (λ t. before ++ t) (lent_is name y.iter o after)),
@@ -225,21 +225,21 @@ move_does old new name i it y move there answer called before now s stands first
 
 pub close_does : {V : Type 0} (old new : Session V) (name : List ℕ) (i : ℕ) (d : OpenIterator) (before now : List ℕ) (s : SessionState)
     → StandsFor old s → IsFirst iterator_name old.iterators.items name i
-    → new.core ≡ old.core → new.writers.items ≡ old.writers.items → new.snapshots.items ≡ old.snapshots.items → new.iterators.items ≡ remove old.iterators.items i
+    → new.mem ≡ old.mem → new.writers.items ≡ old.writers.items → new.snapshots.items ≡ old.snapshots.items → new.iterators.items ≡ remove old.iterators.items i
     → Tells before now name Closed
     → DidSo (Does s (Close name)) before now new
-close_does old new name i d before now s stands first same_core same_writers same_snapshots less tells =
+close_does old new name i d before now s stands first same_mem same_writers same_snapshots less tells =
     let here = found_at old.iterators.items s.state.iterators name i d stands.iterators first.within first.first (first.here d) in (
       tells.0,
       with_iterators s (without_named name s.state.iterators),
       (
         Closed,
-        record { allowed = is_there (named name s.state.iterators) here.open_it here.found; answer = inl (refl, refl) },
+        step_goes_on s.state (closes name) Closed _ refl refl (is_there (named name s.state.iterators) here.open_it here.found) refl (inl (refl, refl)),
         tells.1,
         refl,
         refl,
       ),
-      stands_with old new s (without_named name s.state.iterators) stands same_core same_writers same_snapshots
+      stands_with old new s (without_named name s.state.iterators) stands same_mem same_writers same_snapshots
           (subst (λ is. AreAt is (without_named name s.state.iterators)) (sym less)
           (removed_at old.iterators.items s.state.iterators name i d stands.iterators first.within first.first (first.here d))),
       tells.2,

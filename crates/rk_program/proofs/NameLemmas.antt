@@ -72,7 +72,7 @@ names-DoesCommit : (s : SessionState) (w : List ℕ) (text : List ℕ) (e : Sess
 names-DoesCommit s w text e d =
     same_names _ _ _ _ _ _
     (ap (map (λ b. b.0)) d.3 ∙ names-with_named w _ s.batches)
-    (ap (map (λ i. i.0)) (commit_iterators s.state (batch_of w s) d.0 e.state d.1))
+    (ap (map (λ i. i.0)) (commit_iterators s.state (batch_of w s) false d.0 e.state d.1))
     (ap (map (λ x. x.0)) d.4)
 
 names-moves : (s : SessionState) (iter : List ℕ) (move : Move) (text : List ℕ) (e : SessionState)

@@ -1,5 +1,5 @@
--- Two runs over the same lines write the same. Their states may differ in the order of the live numbers alone, since a
--- release may take any copy of its number.
+-- Two runs over the same lines write the same. Their states may differ in the order of the live numbers, since a release
+-- may take any copy of its number, in the log and in the count of faults.
 use Rattle.std.proofs.Common.{◌≡◌, ℕ, ◌+◌, ◌⊎◌, Bool, true, false, not, ◌&&◌, IsPermutation, List, [], ◌∷◌, ◌++◌, length, Option, Some, None, ap, sym, ◌∙◌, refl, subst, inl, inr}
 use Rattle.std.proofs.lemmas.List.Sorted.{IsPermutation-append_left, IsPermutation-refl}
 use Rattle.std.specs.Prelude.{if◌then◌else◌, unwrap_or}
@@ -14,28 +14,29 @@ use Rattle.rk_batch.specs.Checks.{Check, AllPass, IsFirst, checks}
 use Rattle.rk_batch.specs.declared.error.BatchError.{BatchError}
 use Rattle.rk_batch.proofs.Firsts.{one_first}
 use Rattle.rk_batch.proofs.Refusing.{first_fails}
-use Rattle.rk_outside.specs.declared.error.StoreError.TheVariants.{Memory}
 use Rattle.rk_machine.specs.Sizes.{batch_size}
-use Rattle.rk_machine.specs.State.{State, Open, Memtables, shape_of}
-use Rattle.rk_machine.specs.Events.{Event, Commit as commits, Snap as snaps, Release as releases, OpenAt, Moves, Close as closes, CloseCore, Reply, Stands, Committed, Number, Opened}
+use Rattle.rk_machine.specs.State.{State, Open, Memtables, Log, shape_of}
+use Rattle.rk_machine.specs.Events.{Event, Commit as commits, Sync, Snap as snaps, Release as releases, OpenAt, Moves, Close as closes, CloseCore, Reply, Stands, Committed, Synced, Number, Opened}
 use Rattle.rk_machine.specs.Due.{Unless}
-use Rattle.rk_machine.specs.Commits.{commit_due, after_commit, with_memtable_room, froze, is_frozen, passes_memtable}
+use Rattle.rk_machine.specs.Commits.{commit_due, after_commit, joined, with_room, with_memtable_room, froze, written, is_frozen, passes_memtable, passes_pending}
 use Rattle.rk_machine.specs.Iterators.{opened, moved_on, without_named}
 use Rattle.rk_machine.specs.Faults.{Fails}
-use Rattle.rk_machine.specs.Machine.{Done, Step}
-use Rattle.rk_core.proofs.Copies.{still_same}
+use Rattle.rk_machine.specs.Machine.{Done, Answers, Step, counted}
+use Rattle.rk_memstore.proofs.Copies.{still_same}
 use Rattle.rk_script.specs.declared.line.Event.{Event as LineEvent}
 use Rattle.rk_script.specs.declared.line.Event.TheVariants.{Put, Del, RangeSet, RangeUnset, RangeDel, Commit, Snap, Release, Iter, First, Last, Next, Prev, SeekGe, SeekLt, Close, Shape}
 use Rattle.rk_script.specs.declared.line.Line.{Line}
 use Rattle.rk_program.specs.Replies.{refused_text, reply_text, shape_text}
 use Rattle.rk_program.specs.Transcript.{SessionState, begin, batch_of, with_batch, left_by, IsTime, Does, DoesOp, DoesEvent, DoesCommit, DoesMove, IsTranscript}
-use Rattle.rk_program.proofs.Told.{done_if_told, no_text}
+use Rattle.rk_program.proofs.Told.{IsNoCommit, done_if_told, no_failure}
 
--- two states of the machine that may differ in the order of their live numbers alone
+-- two states of the machine that may differ in the order of their live numbers, in the log and in the count of faults,
+-- of which no text tells
 record Alike (m n : State) : Type 0 where
   history : m.history ≡ n.history
   iterators : m.iterators ≡ n.iterators
   memory : m.memory ≡ n.memory
+  halted : m.halted ≡ n.halted
   live : IsPermutation m.live n.live
 
 -- the same of two states of a session
@@ -64,121 +65,154 @@ across p same d = p ∙ (same ∙ sym d)
 Alike-ends : (m' n' k l : State) → m' ≡ k → n' ≡ l → Alike k l → Alike m' n'
 Alike-ends m' n' k l p d same = subst (λ m. Alike m n') (sym p) (subst (λ n. Alike k n) (sym d) same)
 
+-- the log and the count may be any
+Alike-logs : (m n : State) (a b : Log) (f g : ℕ) → Alike m n → Alike (record m { log = a; faults = f }) (record n { log = b; faults = g })
+Alike-logs m n a b f g same = record { history = same.history; iterators = same.iterators; memory = same.memory; halted = same.halted; live = same.live }
+
+-- so each of the two may have written what waits
+written_alike : (t u : Bool) (m n : State) → Alike m n → Alike (if t then written m else m) (if u then written n else n)
+written_alike true true m n same = Alike-logs m n (written m).log (written n).log m.faults n.faults same
+written_alike true false m n same = Alike-logs m n (written m).log n.log m.faults n.faults same
+written_alike false true m n same = Alike-logs m n m.log (written n).log m.faults n.faults same
+written_alike false false m n same = same
+
 -- ---- commits
 
--- what is due of a commit hangs on the history and on the memtables
+-- what is due of a commit hangs on the history, on the memtables, and on whether the store is halted
 same_due : (m n : State) (ops : List Op) → Alike m n → commit_due m ops ≡ commit_due n ops
 same_due m n ops same =
     ap (λ h. commit_due (record m { history = h }) ops) same.history
     ∙ ap (λ k. commit_due (record m { history = n.history; memory = k }) ops) same.memory
+    ∙ ap (λ faults. commit_due (record m { history = n.history; memory = n.memory; halted = faults }) ops) same.halted
 
 room_alike : (t : Bool) (m n : State) → Alike m n → Alike (if t then froze m else m) (if t then froze n else n)
 room_alike true m n same = record {
   history = same.history;
   iterators = same.iterators;
   memory = ap (λ k. record { active = 0; frozen = k.active }) same.memory;
+  halted = same.halted;
   live = same.live;
 }
 room_alike false m n same = same
 
-commit_alike : (m n : State) (ops : List Op) → Alike m n → Alike (after_commit ops m) (after_commit ops n)
-commit_alike m n ops same =
+commit_alike : (m n : State) (ops : List Op) (sync : Bool) → Alike m n → Alike (after_commit ops sync m) (after_commit ops sync n)
+commit_alike m n ops sync same =
     let size = batch_size ops in
     let test : Memtables → Bool = λ k. not (is_frozen (record m { memory = k })) && passes_memtable (record m { memory = k }) size in
     let tests : test m.memory ≡ test n.memory = ap test same.memory in
-    let roomy : Alike (with_memtable_room size m) (with_memtable_room size n) =
+    let frozen : Alike (with_memtable_room size m) (with_memtable_room size n) =
     subst (λ t. Alike (with_memtable_room size m) (if t then froze n else n)) tests (room_alike (test m.memory) m n same) in
-    record {
+    let roomy : Alike (with_room size m) (with_room size n) =
+    written_alike (passes_pending (with_memtable_room size m) size) (passes_pending (with_memtable_room size n) size) _ _ frozen in
+    written_alike sync sync (joined ops (with_room size m)) (joined ops (with_room size n)) (record {
       history = ap (λ h. h ++ ops ∷ []) roomy.history;
       iterators = roomy.iterators;
       memory = ap (λ k. record { active = k.active + size; frozen = k.frozen }) roomy.memory;
+      halted = roomy.halted;
       live = roomy.live;
-    }
-
-committed_alike : (m n m' n' : State) (ops : List Op) (r q : Reply) (name a b : List ℕ) → Alike m n → Step m (commits ops) r m' → Step n (commits ops) q n'
-    → reply_text name r ≡ Some a → reply_text name q ≡ Some b → (r ≡ q) × Alike m' n'
-committed_alike m n m' n' ops r q name a b same p d one two = of (commit_due m ops) (commit_due n ops) (same_due m n ops same) p.answer d.answer where
-  Goes : State → Reply → State → Type 0
-  Goes k reply k' = Done k (commits ops) reply k' ⊎ Fails k (commits ops) reply k'
-
-  done_of : (k : State) (reply : Reply) (k' : State) (text : List ℕ) → reply_text name reply ≡ Some text → Goes k reply k' → Done k (commits ops) reply k'
-  done_of k reply k' text told (inl done) = done
-  done_of k reply k' text told (inr failed) = absurd (no_text name text reply Memory refl told failed.0)
-
-  of : (x y : Option Reply) → x ≡ y → Unless x m r m' (Goes m r m') → Unless y n q n' (Goes n q n') → (r ≡ q) × Alike m' n'
-  of (Some x) (Some y) e u v = let due : x ≡ y = cc in (across u.0 due v.0, Alike-ends m' n' m n u.1 v.1 same)
-  of (Some x) None e u v = cc
-  of None (Some y) e u v = cc
-  of None None e u v =
-      let here = done_of m r m' a one u in
-      let there = done_of n q n' b two v in (
-        across here.0 (ap (λ h. Committed (last h + 1) (last h + length ops)) same.history) there.0,
-        Alike-ends m' n' _ _ here.1 there.1 (commit_alike m n ops same),
-      )
+    })
 
 -- ---- all events
 
--- from states that are alike, an event that is told has one reply
-Step-alike : (m n m' n' : State) (event : Event) (r q : Reply) (name a b : List ℕ) → Alike m n → Step m event r m' → Step n event q n'
-    → reply_text name r ≡ Some a → reply_text name q ≡ Some b → (r ≡ q) × Alike m' n'
-Step-alike m n m' n' (commits ops) r q name a b same p d one two = committed_alike m n m' n' ops r q name a b same p d one two
-Step-alike m n m' n' snaps r q name a b same p d one two =
-    let x = done_if_told m snaps r m' name a tt p one in
-    let y = done_if_told n snaps q n' name b tt d two in (
-      across x.0 (ap (λ h. Number (last h)) same.history) y.0,
-      Alike-ends m' n' _ _ x.1 y.1 (record {
-        history = same.history;
-        iterators = same.iterators;
-        memory = same.memory;
-        live = subst (λ k. IsPermutation (m.live ++ last m.history ∷ []) (n.live ++ k ∷ [])) (ap last same.history)
-            (IsPermutation-append_left (last m.history ∷ []) m.live n.live same.live);
-      }),
-    )
-Step-alike m n m' n' (releases number) r q name a b same p d one two =
-    let x = done_if_told m (releases number) r m' name a tt p one in
-    let y = done_if_told n (releases number) q n' name b tt d two in (
-      across x.0 refl y.0,
-      Alike-ends m' n' _ _ x.1.1 y.1.1 (record {
-        history = same.history;
-        iterators = same.iterators;
-        memory = same.memory;
-        live = still_same number m.live m'.live n.live n'.live same.live x.1.0 y.1.0;
-      }),
-    )
-Step-alike m n m' n' (OpenAt called at options) r q name a b same p d one two =
-    let x = done_if_told m (OpenAt called at options) r m' name a tt p one in
-    let y = done_if_told n (OpenAt called at options) q n' name b tt d two in
+-- from states that are alike, an event that is done has one reply
+Done-alike : (m n m' n' : State) (event : Event) (r q : Reply) → Alike m n → Done m event r m' → Done n event q n' → (r ≡ q) × Alike m' n'
+Done-alike m n m' n' (commits ops sync) r q same x y = (
+  across x.0 (ap (λ h. Committed (last h + 1) (last h + length ops)) same.history) y.0,
+  Alike-ends m' n' _ _ x.1 y.1 (commit_alike m n ops sync same),
+)
+Done-alike m n m' n' Sync r q same x y = (across x.0 (ap (λ h. Synced (last h)) same.history) y.0, Alike-ends m' n' _ _ x.1 y.1 (written_alike true true m n same))
+Done-alike m n m' n' snaps r q same x y = (
+  across x.0 (ap (λ h. Number (last h)) same.history) y.0,
+  Alike-ends m' n' _ _ x.1 y.1 (record {
+    history = same.history;
+    iterators = same.iterators;
+    memory = same.memory;
+    halted = same.halted;
+    live = subst (λ k. IsPermutation (m.live ++ last m.history ∷ []) (n.live ++ k ∷ [])) (ap last same.history)
+        (IsPermutation-append_left (last m.history ∷ []) m.live n.live same.live);
+  }),
+)
+Done-alike m n m' n' (releases number) r q same x y = (
+  across x.0 refl y.0,
+  Alike-ends m' n' _ _ x.1.1 y.1.1 (record {
+    history = same.history;
+    iterators = same.iterators;
+    memory = same.memory;
+    halted = same.halted;
+    live = still_same number m.live m'.live n.live n'.live same.live x.1.0 y.1.0;
+  }),
+)
+Done-alike m n m' n' (OpenAt called at options) r q same x y =
     let now = same_opened m n at options same.history in (
       across x.0 (ap (λ it. Opened it.number) now) y.0,
       Alike-ends m' n' _ _ x.1 y.1 (record {
         history = same.history;
         iterators = ap (λ is. is ++ (called, opened m at options) ∷ []) same.iterators ∙ ap (λ it. n.iterators ++ (called, it) ∷ []) now;
         memory = same.memory;
+        halted = same.halted;
         live = same.live;
       }),
     )
-Step-alike m n m' n' (Moves called move) r q name a b same p d one two =
-    let x = done_if_told m (Moves called move) r m' name a tt p one in
-    let y = done_if_told n (Moves called move) q n' name b tt d two in
+Done-alike m n m' n' (Moves called move) r q same x y =
     let it = one_thing called m.iterators n.iterators x.0 y.0 same.iterators x.1 y.1 in (
       across x.2 (ap (λ i. Stands (moved_on i move)) it) y.2,
       Alike-ends m' n' _ _ x.3 y.3 (record {
         history = same.history;
         iterators = ap (with_named called (moved_on x.0 move)) same.iterators ∙ ap (λ i. with_named called (moved_on i move) n.iterators) it;
         memory = same.memory;
+        halted = same.halted;
         live = same.live;
       }),
     )
-Step-alike m n m' n' (closes called) r q name a b same p d one two =
-    let x = done_if_told m (closes called) r m' name a tt p one in
-    let y = done_if_told n (closes called) q n' name b tt d two in (
-      across x.0 refl y.0,
-      Alike-ends m' n' _ _ x.1 y.1 (record { history = same.history; iterators = ap (without_named called) same.iterators; memory = same.memory; live = same.live }),
-    )
-Step-alike m n m' n' CloseCore r q name a b same p d one two =
-    let x = done_if_told m CloseCore r m' name a tt p one in
-    let y = done_if_told n CloseCore q n' name b tt d two in
-    (across x.0 refl y.0, Alike-ends m' n' m n x.1 y.1 same)
+Done-alike m n m' n' (closes called) r q same x y = (
+  across x.0 refl y.0,
+  Alike-ends m' n' _ _ x.1 y.1 (record {
+    history = same.history;
+    iterators = ap (without_named called) same.iterators;
+    memory = same.memory;
+    halted = same.halted;
+    live = same.live;
+  }),
+)
+Done-alike m n m' n' CloseCore r q same x y = (across x.0 refl y.0, Alike-ends m' n' _ _ x.1 y.1 (written_alike true true m n same))
+
+-- a commit that is told is due, or done
+committed_alike : (m n m' n' : State) (ops : List Op) (sync : Bool) (r q : Reply) (name a b : List ℕ) → Alike m n
+    → Answers m (commits ops sync) r m' → Answers n (commits ops sync) q n' → reply_text name r ≡ Some a → reply_text name q ≡ Some b → (r ≡ q) × Alike m' n'
+committed_alike m n m' n' ops sync r q name a b same p d one two = of (commit_due m ops) (commit_due n ops) (same_due m n ops same) p d where
+  Goes : State → Reply → State → Type 0
+  Goes k reply k' = Done k (commits ops sync) reply k' ⊎ Fails k (commits ops sync) reply k'
+
+  done_of : (k : State) (reply : Reply) (k' : State) (text : List ℕ) → reply_text name reply ≡ Some text → Goes k reply k' → Done k (commits ops sync) reply k'
+  done_of k reply k' text told (inl done) = done
+  done_of k reply k' text told (inr failed) = absurd (no_failure name text reply k.faults _ _ told failed)
+
+  of : (x y : Option Reply) → x ≡ y → Unless x m r m' (Goes m r m') → Unless y n q n' (Goes n q n') → (r ≡ q) × Alike m' n'
+  of (Some x) (Some y) e u v = let due : x ≡ y = cc in (across u.0 due v.0, Alike-ends m' n' m n u.1 v.1 same)
+  of (Some x) None e u v = cc
+  of None (Some y) e u v = cc
+  of None None e u v = Done-alike m n m' n' (commits ops sync) r q same (done_of m r m' a one u) (done_of n q n' b two v)
+
+-- from states that are alike, an event that is told has one reply
+Step-alike : (m n m' n' : State) (event : Event) (r q : Reply) (name a b : List ℕ) → Alike m n → Step m event r m' → Step n event q n'
+    → reply_text name r ≡ Some a → reply_text name q ≡ Some b → (r ≡ q) × Alike m' n'
+Step-alike m n m' n' event r q name a b same p d one two = of event p d where
+  now : Alike (counted m'.faults m) (counted n'.faults n)
+  now = Alike-logs m n m.log n.log m'.faults n'.faults same
+
+  -- an event that is no commit is done
+  other : (e : Event) → IsNoCommit e → Step m e r m' → Step n e q n' → (r ≡ q) × Alike m' n'
+  other e no_commit x y = Done-alike (counted m'.faults m) (counted n'.faults n) m' n' e r q now (done_if_told m e r m' name a no_commit x one) (done_if_told n e q n' name b no_commit y two)
+
+  of : (e : Event) → Step m e r m' → Step n e q n' → (r ≡ q) × Alike m' n'
+  of (commits ops sync) x y = committed_alike (counted m'.faults m) (counted n'.faults n) m' n' ops sync r q name a b now x.answer y.answer one two
+  of Sync x y = other Sync tt x y
+  of snaps x y = other snaps tt x y
+  of (releases number) x y = other (releases number) tt x y
+  of (OpenAt called at options) x y = other (OpenAt called at options) tt x y
+  of (Moves called move) x y = other (Moves called move) tt x y
+  of (closes called) x y = other (closes called) tt x y
+  of CloseCore x y = other CloseCore tt x y
 
 -- a reply has one text
 one_text : (name a b : List ℕ) (r q : Reply) → r ≡ q → reply_text name r ≡ Some a → reply_text name q ≡ Some b → a ≡ b
@@ -201,8 +235,8 @@ DoesCommit-alike : (s t : SessionState) (writer : List ℕ) (a b : List ℕ) (s'
 DoesCommit-alike s t writer a b s' t' same p d =
     let ops = batch_of writer s in
     let batch : ops ≡ batch_of writer t = same_batch s t writer same in
-    let P : List Op → Type 0 = λ os. Step t.state (commits os) d.0 t'.state in
-    let steps = Step-alike s.state t.state s'.state t'.state (commits ops) p.0 d.0 writer a b same.states p.1 (subst P (sym batch) d.1) p.2 d.2 in
+    let P : List Op → Type 0 = λ os. Step t.state (commits os false) d.0 t'.state in
+    let steps = Step-alike s.state t.state s'.state t'.state (commits ops false) p.0 d.0 writer a b same.states p.1 (subst P (sym batch) d.1) p.2 d.2 in
     let left : left_by p.0 ops ≡ left_by d.0 (batch_of writer t) = ap (λ r. left_by r ops) steps.0 ∙ ap (left_by d.0) batch in (
       one_text writer a b p.0 d.0 steps.0 p.2 d.2,
       record {
@@ -290,4 +324,4 @@ transcripts_alike (line ∷ lines) s t a b s' t' same p d =
 
 pub one_transcript : (lines : List Line) (a b : List ℕ) (s t : SessionState) → IsTranscript begin lines a s → IsTranscript begin lines b t → a ≡ b
 one_transcript lines a b s t p d =
-    transcripts_alike lines begin begin a b s t (record { states = record { history = refl; iterators = refl; memory = refl; live = IsPermutation-refl [] }; batches = refl; snapshots = refl }) p d
+    transcripts_alike lines begin begin a b s t (record { states = record { history = refl; iterators = refl; memory = refl; halted = refl; live = IsPermutation-refl [] }; batches = refl; snapshots = refl }) p d

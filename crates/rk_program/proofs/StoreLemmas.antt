@@ -1,15 +1,12 @@
 -- Lines on snapshots: what they do to a session, and to the state that it stands for.
-use Rattle.std.proofs.Common.{◌≡◌, ℕ, ◌+◌, ◌<◌, List, [], ◌∷◌, ◌++◌, map, length, remove, get_or, IsPermutation, Some, ap, sym, ◌∙◌, refl, subst, arith}
+use Rattle.std.proofs.Common.{◌≡◌, ℕ, List, [], ◌∷◌, ◌++◌, map, remove, get_or, IsPermutation, Some, ap, sym, ◌∙◌, refl, subst}
 use Rattle.std.proofs.lemmas.List.Sorted.{IsPermutation-append_left}
 use Rattle.rk_model.specs.Named.{named}
 use Rattle.rk_model.specs.Operations.{last}
-use Rattle.rk_machine.specs.State.{State}
 use Rattle.rk_machine.specs.Events.{Snap as snaps, Release as releases, Number, Released}
-use Rattle.rk_machine.specs.Snapshots.{TakesOne}
 use Rattle.rk_machine.specs.Iterators.{without_named}
-use Rattle.rk_machine.specs.Machine.{Step}
-use Rattle.rk_core.specs.Answers.{IsStep}
-use Rattle.rk_core.proofs.Copies.{still_same}
+use Rattle.rk_memstore.specs.Answers.{IsStep}
+use Rattle.rk_memstore.proofs.Copies.{still_same}
 use Rattle.rk_script.specs.declared.line.Event.TheVariants.{Snap, Release}
 use Rattle.rk_program.specs.Replies.{Tells}
 use Rattle.rk_program.specs.Standing.{StandsFor, DidSo, AreAt, batches, numbers}
@@ -31,12 +28,12 @@ abbrev numbers_of : List (List ℕ × ℕ) → List ℕ
 numbers_of ps = map (λ p. p.1) ps
 
 pub snap_does : {V : Type 0} (old new : Session V) (name : List ℕ) (x : Snapshot) (before now : List ℕ) (s : SessionState)
-    → StandsFor old s → IsStep old.core new.core snaps (Number x.number)
+    → StandsFor old s → IsStep old.mem new.mem snaps (Number x.number)
     → new.writers.items ≡ old.writers.items → new.iterators.items ≡ old.iterators.items
     → new.snapshots.items ≡ old.snapshots.items ++ x ∷ [] → x.name ≡ name → Tells before now name (Number x.number)
     → DidSo (Does s (Snap name)) before now new
 snap_does old new name x before now s stands steps same_writers same_iterators more called tells =
-    let (m, step, core) = steps s.state stands.core in
+    let (m, step, mem, halted) = steps s.state stands.mem in
     let done = done_if_told s.state snaps (Number x.number) m name tells.0 tt step tells.1 in
     let n = last s.state.history in
     let number : x.number ≡ n = cc in (
@@ -44,7 +41,8 @@ snap_does old new name x before now s stands steps same_writers same_iterators m
       record { state = m; batches = s.batches; snapshots = s.snapshots ++ (name, n) ∷ [] },
       (Number x.number, step, tells.1, refl, refl),
       record {
-        core = core;
+        mem = mem;
+        running = halted ∙ stands.running;
         batches = ap batches same_writers ∙ stands.batches;
         snapshots = ap numbers more ∙ (map-snoc (λ y. (snapshot_name y, snapshot_number y)) old.snapshots.items x
             ∙ (ap (λ ps. ps ++ (x.name, x.number) ∷ []) stands.snapshots
@@ -61,7 +59,7 @@ snap_does old new name x before now s stands steps same_writers same_iterators m
 
 pub release_does : {V : Type 0} (old new : Session V) (name : List ℕ) (i : ℕ) (d : Snapshot) (before now : List ℕ) (s : SessionState)
     → StandsFor old s → IsFirst snapshot_name old.snapshots.items name i
-    → IsStep old.core new.core (releases (get_or old.snapshots.items i d).number) Released
+    → IsStep old.mem new.mem (releases (get_or old.snapshots.items i d).number) Released
     → new.writers.items ≡ old.writers.items → new.iterators.items ≡ old.iterators.items
     → new.snapshots.items ≡ remove old.snapshots.items i → Tells before now name Released
     → DidSo (Does s (Release name)) before now new
@@ -70,13 +68,14 @@ release_does old new name i d before now s stands first steps same_writers same_
     let found : named name s.snapshots ≡ Some number =
     ap (named name) (sym stands.snapshots) ∙ IsFirst-named snapshot_name snapshot_number old.snapshots.items name i d first in
     let rest = without_named name s.snapshots in
-    let (m, step, core) = steps s.state stands.core in
+    let (m, step, mem, halted) = steps s.state stands.mem in
     let done = done_if_told s.state (releases number) Released m name tells.0 tt step tells.1 in (
       tells.0,
       record { state = m; batches = s.batches; snapshots = rest },
       (number, found, (Released, step, tells.1, refl, refl)),
       record {
-        core = core;
+        mem = mem;
+        running = halted ∙ stands.running;
         batches = ap batches same_writers ∙ stands.batches;
         snapshots = ap numbers less ∙ (IsFirst-remove snapshot_name snapshot_number old.snapshots.items name i d first
             ∙ ap (without_named name) stands.snapshots);

@@ -1,11 +1,11 @@
 -- What the session keeps, and the state that it stands for.
-use Rattle.std.specs.Prelude.{◌≡◌, ℕ, ◌<◌, slice_index_or, slice_set, List, ◌++◌, ◌∷◌, [], map, length, unwrap_or, IsSome, IsPermutation, Result, OnOk, OnErr, IfErr}
+use Rattle.std.specs.Prelude.{◌≡◌, ℕ, ◌<◌, slice_index_or, slice_set, List, ◌++◌, ◌∷◌, [], map, length, unwrap_or, None, IsSome, IsPermutation, Result, OnOk, OnErr, IfErr}
 use Rattle.rk_model.specs.Named.{named, with_named}
 use Rattle.rk_model.specs.declared.op.Op.{Op}
 use Rattle.rk_batch.specs.Checks.{AllPass, IsRefusal, checks}
 use Rattle.rk_batch.specs.declared.error.BatchError.{BatchError}
 use Rattle.rk_machine.specs.State.{Open}
-use Rattle.rk_core.specs.Standing.{StandsFor as CoreStandsFor}
+use Rattle.rk_memstore.specs.Standing.{StandsInMemory}
 use Rattle.rk_iter_laws.specs.Showing.{IsAt}
 use Rattle.rk_script.specs.Script.{Names}
 use Rattle.rk_script.specs.declared.line.Event.{Event}
@@ -42,10 +42,11 @@ names_in session = record {
   iterators = map (λ i. i.name) session.iterators.items;
 }
 
--- A session stands for a state: its core for that of the machine, with the batches, the snapshots and the iterators of
--- the state. The live numbers are those of the snapshots.
+-- A session stands for a state: its store for that of the machine, which is not halted, with the batches, the snapshots
+-- and the iterators of the state. The live numbers are those of the snapshots.
 pub record StandsFor {V : Type 0} (session : Session V) (s : SessionState) : Type 0 where
-  pub core : CoreStandsFor session.core s.state
+  pub mem : StandsInMemory session.mem s.state
+  pub running : s.state.halted ≡ None
   pub batches : batches session.writers.items ≡ s.batches
   pub snapshots : numbers session.snapshots.items ≡ s.snapshots
   pub live : IsPermutation (map (λ x. x.1) s.snapshots) s.state.live

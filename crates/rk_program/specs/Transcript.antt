@@ -1,5 +1,5 @@
 -- What the lines of a command file do, one after the other, and what is written for them.
-use Rattle.std.specs.Prelude.{◌≡◌, ℕ, ◌⊎◌, List, [], ◌∷◌, ◌++◌, map, unwrap_or, Option, Some, None, IsSome, IsTrue}
+use Rattle.std.specs.Prelude.{◌≡◌, ℕ, ◌⊎◌, false, List, [], ◌∷◌, ◌++◌, map, unwrap_or, Option, Some, None, IsSome, IsTrue}
 use Rattle.rk_model.specs.Moves.{Move}
 use Rattle.rk_model.specs.Moves as move
 use Rattle.rk_model.specs.Named.{named, with_named}
@@ -62,7 +62,7 @@ abbrev pub DoesCommit : SessionState → List ℕ → List ℕ → SessionState 
 DoesCommit s writer text s' =
     let ops = batch_of writer s in
     (reply : Reply)
-    × Step s.state (commits ops) reply s'.state
+    × Step s.state (commits ops false) reply s'.state
     × (reply_text writer reply ≡ Some text)
     × (s'.batches ≡ with_named writer (left_by reply ops) s.batches)
     × (s'.snapshots ≡ s.snapshots)

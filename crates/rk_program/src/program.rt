@@ -124,7 +124,7 @@ fn do_lines<K: Sink, V>(
     ensures part { OnErr result ((lines : List Line) → script file.now ≡ Ok lines → WrotePart (K.written sink.old) (K.written sink.new) lines) }
     ensures cause { IfErr result (IsSinkRefusal (K.fault_count sink.old) (K.fault_count sink.new)) }
     ensures later { K.fault_count sink.old ≤ K.fault_count sink.new }
-    ensures vault { session.new.core.vault ≡ session.old.core.vault }
+    ensures vault { session.new.vault ≡ session.old.vault }
 {
     let mut lines = Lines::new(alloc, file);
     let mut text = Vec::new(alloc);

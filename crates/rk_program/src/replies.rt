@@ -9,9 +9,9 @@ ghost use Rattle.rk_script.specs.Words.{line_end};
 ghost use Rattle.rk_program.specs.Replies.{pair_text, span_text, point_text, which_text, what_text, refusal_text, refused_text, uncommitted_text, number_text, two_text, shape_text, memtables_text, levels_text, level_text, lent_place, lent_text, Tells};
 
 use rk_batch::BatchError;
-use rk_core::{Numbers, Shape};
 use rk_iter::Iter;
 use rk_key::Which;
+use rk_memstore::{Numbers, Shape};
 use rk_model::{Cursor, SuffixValue};
 use rk_outside::{NoMemory, StoreError, What};
 use rk_script::{push_escaped, push_escaped_bytes};

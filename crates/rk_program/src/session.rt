@@ -7,9 +7,9 @@ use crate::batches::{BatchOp, place_of};
 use crate::moves::Move;
 use crate::replies;
 use rk_batch::Batch;
-use rk_core::{Closed, Core};
 use rk_iter::Iter;
 use rk_key::{Suffix, UserKey};
+use rk_memstore::MemStore;
 use rk_model::{IterOptions, copy_bound};
 use rk_outside::{Bytes, NoMemory, Refused, StoreError};
 use rk_script::{Event, Line, Named, find};
@@ -60,15 +60,25 @@ impl Named for OpenIterator {
     }
 }
 
-/// What a run keeps: the store, the writers, the snapshots, the open iterators, and the room for the reply to a line.
+/// What a run keeps: the store, the vault, the writers, the snapshots, the open iterators, and the room for the reply to a line.
 #[derive(Debug, Drop)]
 pub struct Session<V> {
     pub(crate) alloc: Global,
-    pub(crate) core: Core<V>,
+    pub(crate) mem: MemStore,
+    pub(crate) vault: V,
     pub(crate) writers: Vec<Writer>,
     pub(crate) snapshots: Vec<Snapshot>,
     pub(crate) iterators: Vec<OpenIterator>,
     pub(crate) reply: Vec<u8>,
+}
+
+/// What is left of a session that was ended.
+#[derive(Debug, Drop)]
+pub struct Closed<V> {
+    /// The vault, as it was handed in.
+    pub vault: V,
+    /// Whether all was written out.
+    pub result: Result<(), StoreError>,
 }
 
 impl<V> Session<V> {
@@ -89,19 +99,25 @@ impl<V> Session<V> {
     /// `Memory` alone. The vault is handed back.
     pub fn begin(alloc: Global, vault: V) -> Result<Session<V>, Refused<V>>
         ensures stands { IfOk result (λ session. StandsFor session begin) }
-        ensures vault { IfOk result (λ session. session.core.vault ≡ vault) }
+        ensures vault { IfOk result (λ session. session.vault ≡ vault) }
         ensures memory { IfErr result (λ refused. refused.error ≡ store_error.Memory) }
         ensures back { IfErr result (λ refused. refused.value ≡ vault) }
     {
-        let core = Core::open(alloc, vault)?;
-        Ok(Session {
-            alloc,
-            core,
-            writers: Vec::new(alloc),
-            snapshots: Vec::new(alloc),
-            iterators: Vec::new(alloc),
-            reply: Vec::new(alloc),
-        })
+        match MemStore::new(alloc) {
+            Ok(mem) => Ok(Session {
+                alloc,
+                mem,
+                vault,
+                writers: Vec::new(alloc),
+                snapshots: Vec::new(alloc),
+                iterators: Vec::new(alloc),
+                reply: Vec::new(alloc),
+            }),
+            Err(NoMemory) => Err(Refused {
+                error: StoreError::Memory,
+                value: vault,
+            }),
+        }
     }
 
     /// Does what a line asks for, and adds its replies to `out`, with their line ends.
@@ -114,7 +130,7 @@ impl<V> Session<V> {
         ensures did { (s : SessionState) → StandsFor self.old s → OnOk result (Did s line.now.event out.old.items out.new.items self.new) }
         ensures memory { IfErr result (λ error. error ≡ store_error.Memory) }
         ensures kept { OnErr result (out.new.items ≡ out.old.items) }
-        ensures vault { self.new.core.vault ≡ self.old.core.vault }
+        ensures vault { self.new.vault ≡ self.old.vault }
     {
         self.reply.clear();
         match self.event(&line.event) {
@@ -128,17 +144,20 @@ impl<V> Session<V> {
 
     /// Closes the store, and hands the vault back.
     pub fn end(self) -> Closed<V>
-        ensures vault { result.vault ≡ self.core.vault }
+        ensures vault { result.vault ≡ self.vault }
         ensures done { result.result ≡ Ok tt }
     {
-        self.core.close()
+        Closed {
+            vault: self.vault,
+            result: Ok(()),
+        }
     }
 
     // Does what a line asks for. Its reply is added to that of this session.
     fn event(&mut self, event: &Event) -> Result<(), NoMemory>
         requires accepted { IsTrue (is_accepted (names_in self.old) event.now) }
         ensures did { (s : SessionState) → StandsFor self.old s → OnOk result (Did s event.now self.old.reply.items self.new.reply.items self.new) }
-        ensures vault { self.new.core.vault ≡ self.old.core.vault }
+        ensures vault { self.new.vault ≡ self.old.vault }
     {
         match operation(event) {
             Some((writer, op)) => self.give(writer, op),
@@ -151,7 +170,7 @@ impl<V> Session<V> {
         requires other { operation_of event.now ≡ None }
         requires accepted { IsTrue (is_accepted (names_in self.old) event.now) }
         ensures did { (s : SessionState) → StandsFor self.old s → OnOk result (Did s event.now self.old.reply.items self.new.reply.items self.new) }
-        ensures vault { self.new.core.vault ≡ self.old.core.vault }
+        ensures vault { self.new.vault ≡ self.old.vault }
     {
         match event {
             Event::Commit { writer } => self.commit(writer),
@@ -179,7 +198,7 @@ impl<V> Session<V> {
     // Gives a writer's batch an operation. A refusal is told.
     fn give(&mut self, writer: &Bytes, op: BatchOp<'_>) -> Result<(), NoMemory>
         ensures did { (s : SessionState) → StandsFor self.old s → OnOk result (DidSo (DoesOp s writer.now (op_of op.entry)) self.old.reply.items self.new.reply.items self.new) }
-        ensures vault { self.new.core.vault ≡ self.old.core.vault }
+        ensures vault { self.new.vault ≡ self.old.vault }
     {
         let i = place_of(self.alloc, &mut self.writers, writer)?;
         match op.add_to(&mut self.writers[i].batch) {
@@ -191,10 +210,10 @@ impl<V> Session<V> {
     // Commits a writer's batch. A refusal is told, but for want of memory, and leaves the batch.
     fn commit(&mut self, writer: &Bytes) -> Result<(), NoMemory>
         ensures did { (s : SessionState) → StandsFor self.old s → OnOk result (DidSo (DoesCommit s writer.now) self.old.reply.items self.new.reply.items self.new) }
-        ensures vault { self.new.core.vault ≡ self.old.core.vault }
+        ensures vault { self.new.vault ≡ self.old.vault }
     {
         let i = place_of(self.alloc, &mut self.writers, writer)?;
-        match self.core.commit(&self.writers[i].batch, false) {
+        match self.mem.commit(&self.writers[i].batch) {
             Ok(numbers) => {
                 self.writers[i].batch.clear();
                 replies::committed(self.alloc, &mut self.reply, writer.bytes(), numbers)
@@ -207,9 +226,9 @@ impl<V> Session<V> {
     fn snap(&mut self, name: &Bytes) -> Result<(), NoMemory>
         requires room { length self.old.snapshots.items < MOST_SNAPSHOTS }
         ensures did { (s : SessionState) → StandsFor self.old s → OnOk result (DidSo (Does s (Snap name.now)) self.old.reply.items self.new.reply.items self.new) }
-        ensures vault { self.new.core.vault ≡ self.old.core.vault }
+        ensures vault { self.new.vault ≡ self.old.vault }
     {
-        let Ok(number) = self.core.snap() else {
+        let Ok(number) = self.mem.snap() else {
             return Err(NoMemory);
         };
         replies::snapped(self.alloc, &mut self.reply, name.bytes(), number)?;
@@ -222,11 +241,11 @@ impl<V> Session<V> {
     fn release(&mut self, name: &Bytes) -> Result<(), NoMemory>
         requires live { IsLive name.now (numbers self.old.snapshots.items) }
         ensures did { (s : SessionState) → StandsFor self.old s → OnOk result (DidSo (Does s (Release name.now)) self.old.reply.items self.new.reply.items self.new) }
-        ensures vault { self.new.core.vault ≡ self.old.core.vault }
+        ensures vault { self.new.vault ≡ self.old.vault }
     {
         let i = live_place(&self.snapshots, name);
         let snapshot = self.snapshots.remove(i);
-        match self.core.release(snapshot.number) {
+        match self.mem.release(snapshot.number) {
             Ok(()) => replies::released(&mut self.reply, name.bytes()),
             Err(_) => Err(NoMemory),
         }
@@ -242,10 +261,10 @@ impl<V> Session<V> {
         requires free { is_called name.now (names_in self.old).iterators ≡ false }
         requires live { IfSome at.now (λ snapshot. IsLive snapshot (numbers self.old.snapshots.items)) }
         ensures did { (s : SessionState) → StandsFor self.old s → OnOk result (DidSo (DoesOpening s name.now at.now options.now) self.old.reply.items self.new.reply.items self.new) }
-        ensures vault { self.new.core.vault ≡ self.old.core.vault }
+        ensures vault { self.new.vault ≡ self.old.vault }
     {
         let number = self.time(at);
-        let Ok(pins) = self.core.pin(number) else {
+        let Ok(pins) = self.mem.pin(number) else {
             return Err(NoMemory);
         };
         let number = pins.number;
@@ -270,7 +289,7 @@ impl<V> Session<V> {
     fn step(&mut self, iter: &Bytes, step: Move<'_>) -> Result<(), NoMemory>
         requires live { is_called iter.now (names_in self.old).iterators ≡ true }
         ensures did { (s : SessionState) → StandsFor self.old s → OnOk result (DidSo (DoesMove s iter.now (move_of step.entry)) self.old.reply.items self.new.reply.items self.new) }
-        ensures vault { self.new.core.vault ≡ self.old.core.vault }
+        ensures vault { self.new.vault ≡ self.old.vault }
     {
         let i = live_place(&self.iterators, iter);
         match step.make(&mut self.iterators[i].iter) {
@@ -283,7 +302,7 @@ impl<V> Session<V> {
     fn close(&mut self, iter: &Bytes) -> Result<(), NoMemory>
         requires live { is_called iter.now (names_in self.old).iterators ≡ true }
         ensures did { (s : SessionState) → StandsFor self.old s → OnOk result (DidSo (Does s (Close iter.now)) self.old.reply.items self.new.reply.items self.new) }
-        ensures vault { self.new.core.vault ≡ self.old.core.vault }
+        ensures vault { self.new.vault ≡ self.old.vault }
     {
         let i = live_place(&self.iterators, iter);
         let _ = self.iterators.remove(i);
@@ -293,9 +312,9 @@ impl<V> Session<V> {
     // Tells the sizes of the store.
     fn shape(&mut self) -> Result<(), NoMemory>
         ensures did { (s : SessionState) → StandsFor self.old s → OnOk result (DidSo (Does s Shape) self.old.reply.items self.new.reply.items self.new) }
-        ensures vault { self.new.core.vault ≡ self.old.core.vault }
+        ensures vault { self.new.vault ≡ self.old.vault }
     {
-        replies::shape(self.alloc, &mut self.reply, self.core.shape())
+        replies::shape(self.alloc, &mut self.reply, self.mem.shape())
     }
 }
 

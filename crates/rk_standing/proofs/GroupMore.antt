@@ -17,7 +17,7 @@ use Rattle.rk_log.specs.Logs.{LogsSeen, later, is_second_active, begins_lower}
 use Rattle.rk_log.specs.declared.group.Logged.{Logged}
 use Rattle.rk_opening.specs.Stores.{StoreSeen}
 use Rattle.rk_wal.specs.Following.{IsReady, due_in, is_taken_last, log_of, other_of, with_group}
-use Rattle.rk_core.proofs.Numbered.{numbered_within}
+use Rattle.rk_memstore.proofs.Numberings.{numbered_within}
 use Rattle.rk_standing.specs.Stands.{group_entries, log_entries, parts_by, store_parts, is_second, last_number, StoreStands}
 use Rattle.rk_standing.proofs.Growing.{last_both, agrees_on}
 

@@ -17,9 +17,9 @@ use Rattle.rk_mem.specs.Chunks.{AreNewer}
 use Rattle.rk_mem.specs.Memory.{EachTwo}
 use Rattle.rk_laws.specs.Newer.{NumberedBelow}
 use Rattle.rk_merge_laws.specs.Chunks.{all_of}
-use Rattle.rk_core.specs.Agreement.{IsSeen, Agrees}
-use Rattle.rk_core.proofs.Numbered.{numbered_both, numbered_within, none_above_last}
-use Rattle.rk_core.proofs.Orders.{Same, same_of_cells, cells_of_same, upto_all, same_newer, same_permuted, differ_newer, differ_permuted}
+use Rattle.rk_memstore.specs.Agreement.{IsSeen, Agrees}
+use Rattle.rk_memstore.proofs.Numberings.{numbered_both, numbered_within, none_above_last}
+use Rattle.rk_memstore.proofs.Orders.{Same, same_of_cells, cells_of_same, upto_all, same_newer, same_permuted, differ_newer, differ_permuted}
 
 operations_both : (h more : History) → operations (h ++ more) ≡ operations h ++ operations more
 operations_both [] more = refl

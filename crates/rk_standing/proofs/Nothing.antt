@@ -1,7 +1,7 @@
 -- A new store stands for the empty history, and other examples that compute.
 use Rattle.std.proofs.Common.{[], refl, arith}
 use Rattle.rk_opening.specs.Stores.{new_store}
-use Rattle.rk_core.specs.Agreement.{Agrees}
+use Rattle.rk_memstore.specs.Agreement.{Agrees}
 use Rattle.rk_standing.specs.Stands.{StoreStands, store_parts}
 
 none_agree : Agrees (store_parts new_store) [] []

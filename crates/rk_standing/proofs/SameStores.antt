@@ -10,7 +10,7 @@ use Rattle.rk_log.specs.declared.group.Logged.{Logged}
 use Rattle.rk_opening.specs.Stores.{StoreSeen, store_of, kept, settled, AreAlike}
 use Rattle.rk_opening.specs.Openings.{IsAlike}
 use Rattle.rk_wal.specs.Following.{due_in, log_of, other_of}
-use Rattle.rk_core.specs.Agreement.{Agrees}
+use Rattle.rk_memstore.specs.Agreement.{Agrees}
 use Rattle.rk_standing.specs.Stands.{log_entries, is_second, store_parts, last_number, StoreStands, AreStoreOf}
 
 later_kept : (flushed : ℕ) (log : List Logged) → later flushed (kept flushed log) ≡ later flushed log

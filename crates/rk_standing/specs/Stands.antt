@@ -8,7 +8,7 @@ use Rattle.rk_log.specs.Logs.{later, is_second_active}
 use Rattle.rk_log.specs.declared.group.Logged.{Logged}
 use Rattle.rk_opening.specs.Stores.{StoreSeen, IsUnmade, has_magic, store_of}
 use Rattle.rk_wal.specs.Following.{due_in, log_of, other_of}
-use Rattle.rk_core.specs.Agreement.{Agrees}
+use Rattle.rk_memstore.specs.Agreement.{Agrees}
 
 -- the entries of groups: their operations with their numbers
 abbrev pub group_entries : GroupSeen → List Entry

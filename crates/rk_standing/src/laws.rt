@@ -6,7 +6,7 @@ ghost use Rattle.rk_model.specs.declared.op.Entry.{Entry};
 ghost use Rattle.rk_mem.specs.Chunks.{AreNewer};
 ghost use Rattle.rk_mem.specs.Memory.{EachTwo};
 ghost use Rattle.rk_merge_laws.specs.Chunks.{all_of};
-ghost use Rattle.rk_core.specs.Agreement.{Agrees};
+ghost use Rattle.rk_memstore.specs.Agreement.{Agrees};
 ghost use Rattle.rk_outside.specs.Disks.{Files, Disk, IsHonest, LeavesOnly};
 ghost use Rattle.rk_log.specs.Groups.{IsGroupOf};
 ghost use Rattle.rk_opening.specs.Stores.{StoreSeen, has_magic, settled, store_of};

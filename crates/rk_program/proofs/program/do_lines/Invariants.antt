@@ -8,7 +8,7 @@ abbrev pub invariant-loop-text : goal.invariant-loop-text
 invariant-loop-text g l = record {
   going : Going l.session (g.K.Sink.written l.initial.sink) (g.K.Sink.written l.sink) l.fn.file (remaining l.lines);
   no_fault : g.K.Sink.fault_count l.sink ≡ g.K.Sink.fault_count l.initial.sink;
-  vault : l.session.core.vault ≡ l.initial.session.core.vault;
+  vault : l.session.vault ≡ l.initial.session.vault;
 }
 
 abbrev pub decreases-loop-text : goal.decreases-loop-text

@@ -1,8 +1,0 @@
-pub mod Numbered
-pub mod Orders
-pub mod Joined
-pub mod Copies
-pub mod Steps
-pub mod Live
-pub mod Commits
-pub mod Pins
